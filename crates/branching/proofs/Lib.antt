@@ -1,0 +1,3 @@
+pub mod SecuredLaws
+pub mod ChooseLaws
+pub mod Taken

@@ -1,0 +1,3 @@
+pub mod ExecuteLaws
+pub mod ToldLaws
+pub mod Bare

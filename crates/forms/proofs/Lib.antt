@@ -1,0 +1,4 @@
+pub mod SizeTable
+pub mod PoolLaws
+pub mod FormLaws
+pub mod NameLaws

@@ -1,0 +1,4 @@
+pub mod LookLaws
+pub mod WalkLaws
+pub mod StructureLaws
+pub mod JudgeLaws

@@ -1,0 +1,79 @@
+-- `lay` meets its contract.
+-- Assumes nothing.
+use Rattle.records.proofs.WriteLaws.{write-laws}
+use borrow.Author.Needs.{needs}
+use Rattle.records.proofs.lay.Statement.{statement}
+use Rattle.records.proofs.lay.Tie as tie
+
+cast-t9 : tie.Need-cast-t9
+cast-t9 c = search needs
+
+cast-t10 : tie.Need-cast-t10
+cast-t10 c = search needs
+
+sub-copy : tie.Need-sub-copy
+sub-copy c = search needs
+
+part-copy-start : tie.Need-part-copy-start
+part-copy-start c = search needs
+
+part-copy-end : tie.Need-part-copy-end
+part-copy-end c = search needs
+
+slice-aggregate-copy : tie.Need-slice-aggregate-copy
+slice-aggregate-copy c = search needs
+
+copy-requires : tie.Need-copy-requires
+copy-requires c κs = search needs
+
+sub-fill : tie.Need-sub-fill
+sub-fill c = search needs
+
+part-fill-start : tie.Need-part-fill-start
+part-fill-start c = search needs
+
+part-fill-end : tie.Need-part-fill-end
+part-fill-end c = search needs
+
+fill-requires : tie.Need-fill-requires
+fill-requires c κs = search needs
+
+sub-fill-2 : tie.Need-sub-fill-2
+sub-fill-2 c = search needs
+
+part-fill-start-2 : tie.Need-part-fill-start-2
+part-fill-start-2 c = search needs
+
+part-fill-end-2 : tie.Need-part-fill-end-2
+part-fill-end-2 c = search needs
+
+fill-requires-2 : tie.Need-fill-requires-2
+fill-requires-2 c κs = search needs
+
+same-length : tie.Need-same-length
+same-length c = search needs
+
+returns : tie.Need-returns
+returns c = search (needs, write-laws)
+
+pub lay-spec : {M : Type 1} → statement M
+lay-spec =
+    tie.close
+    (tie.spec
+    cast-t9
+    cast-t10
+    sub-copy
+    part-copy-start
+    part-copy-end
+    slice-aggregate-copy
+    copy-requires
+    sub-fill
+    part-fill-start
+    part-fill-end
+    fill-requires
+    sub-fill-2
+    part-fill-start-2
+    part-fill-end-2
+    fill-requires-2
+    same-length
+    returns)

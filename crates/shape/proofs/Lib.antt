@@ -1,0 +1,2 @@
+pub mod ShapeTable
+pub mod BodyLaws

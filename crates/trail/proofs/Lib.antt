@@ -1,0 +1,4 @@
+pub mod CutLaws
+pub mod TrailLaws
+pub mod FineLaws
+pub mod Same

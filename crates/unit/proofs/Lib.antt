@@ -1,0 +1,2 @@
+pub mod Nths
+pub mod Units

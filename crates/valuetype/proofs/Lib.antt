@@ -1,0 +1,2 @@
+pub mod TypeLaws
+pub mod Bare

@@ -1,0 +1,4 @@
+pub mod ComplaintLaws
+pub mod ServiceLaws
+pub mod VariableLaws
+pub mod Bare
