@@ -6,7 +6,6 @@ use mathlib.Core.Path.{_≡_, refl, sym, ap, _∙_}
 use native.Mathlib.Omega.{arith}
 use lib.ListN.{length, drop}
 use Rattle.pour.specs.Pour.{blank}
-use Rattle.pour.proofs.PadLaws.{zeros-blank}
 use Rattle.rules.specs.Bytes.{same, part}
 use Rattle.rules.specs.Page.{keepsAll, keepList, password, unlock, bytesOf}
 use Rattle.rules.specs.Card.{Slot, Guard, unlocked, locked}
@@ -14,8 +13,8 @@ use Rattle.rules.specs.Keep.{cleared, listed, keptBy, guardBy, unlocks}
 use Rattle.rules.specs.declared.Part.{Part}
 use Rattle.rules.specs.declared.Part.the-variants.{Held, Missing}
 use Rattle.slots.specs.Slots.{slots, tidySlots}
-use Rattle.word.specs.Word.{wordIn, isMarked, laidMarked, tidyMarked, guardOf}
-use Rattle.word.proofs.Same.{marked-laid, behind-laid, tidy-marked}
+use Rattle.word.specs.Word.{wordIn, isMarked, laidMarked, guardOf, tidyGuard}
+use Rattle.word.proofs.Parts.{guard-blank, guard-laid, blank-guard, laid-guard}
 use Rattle.keep.specs.Opens.{opens}
 
 module _ (s a b : List ℕ) (p : Part) (e : p ≡ keepList s) where
@@ -34,25 +33,13 @@ module _ (s a b : List ℕ) (p : Part) (e : p ≡ keepList s) where
 
 pub ruleset kept-laws = (kept-listed, kept-all, kept-none)
 
-guard-laid : (w : List ℕ) → length w ≤ 16 → guardOf (laidMarked 18 w) ≡ locked w
-unfolding guardOf
-guard-laid w l = rw (marked-laid 18 w (omega arith), behind-laid 18 w (omega arith)) refl
-
-guard-blank : guardOf (blank 18) ≡ unlocked
-unfolding guardOf isMarked
-guard-blank = refl
-
-tidy-blank : tidyMarked (blank 18) ≡ true
-unfolding tidyMarked
-tidy-blank = zeros-blank 18
-
 module _ (s a b : List ℕ) (p : Part) (e : p ≡ password s) where
   pub guard-none : p ≡ Missing → b ≡ blank 18 → (length (bytesOf s (password s)) ≤ 16 → guardOf b ≡ guardBy s (password s))
   unfolding guardBy
   guard-none f g _ = rw (g, ← e, f) guard-blank
 
-  pub guard-none-tidy : b ≡ blank 18 → (tidyMarked a ≡ true → tidyMarked b ≡ true)
-  guard-none-tidy g _ = rw g tidy-blank
+  pub guard-none-tidy : b ≡ blank 18 → (tidyGuard a ≡ true → tidyGuard b ≡ true)
+  guard-none-tidy g _ = rw g blank-guard
 
   module _ (from to : ℕ) (f : p ≡ Held from to) (w : List ℕ) (g : w ≡ part s from to) where
     pub guard-long : 16 < length w → (length (bytesOf s (password s)) ≤ 16 → guardOf a ≡ guardBy s (password s))
@@ -63,8 +50,8 @@ module _ (s a b : List ℕ) (p : Part) (e : p ≡ password s) where
     unfolding guardBy
     guard-word h k _ = rw (← e, f, ← g, k) (guard-laid w h)
 
-    pub guard-word-tidy : length w ≤ 16 → b ≡ laidMarked 18 w → (tidyMarked a ≡ true → tidyMarked b ≡ true)
-    guard-word-tidy h k _ = rw k (tidy-marked 18 w (omega arith))
+    pub guard-word-tidy : length w ≤ 16 → b ≡ laidMarked 18 w → (tidyGuard a ≡ true → tidyGuard b ≡ true)
+    guard-word-tidy h k _ = rw k (laid-guard w h)
 
 pub ruleset guard-laws = (guard-none, guard-none-tidy, guard-long, guard-word, guard-word-tidy)
 

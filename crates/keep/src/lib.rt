@@ -7,7 +7,7 @@ ghost use lib.ListN.{length};
 ghost use Rattle.rules.specs.Page.{keepList, password, bytesOf};
 ghost use Rattle.rules.specs.Keep.{keptBy, guardBy, openedBy};
 ghost use Rattle.slots.specs.Slots.{slots, tidySlots};
-ghost use Rattle.word.specs.Word.{guardOf, tidyMarked};
+ghost use Rattle.word.specs.Word.{guardOf, tidyGuard};
 ghost use Rattle.keep.specs.Opens.{opens};
 
 // The keep rule of a page that ends.
@@ -28,7 +28,7 @@ pub fn keep_temporary(temporary: &mut [u8; 16640], page: &[u8])
 // The guard that a page which ends leaves. No accepted page has a password of more than 16 bytes.
 pub fn keep_guard(guard: &mut [u8; 18], page: &[u8])
     ensures { λ _. ⌜ (length (bytesOf (now (page .entry)) (password (now (page .entry)))) ≤ 16 → guardOf (now (guard .exit)) ≡ guardBy (now (page .entry)) (password (now (page .entry)))) ⌝ }
-    ensures { λ _. ⌜ (tidyMarked (now (guard .entry)) ≡ true → tidyMarked (now (guard .exit)) ≡ true) ⌝ }
+    ensures { λ _. ⌜ (tidyGuard (now (guard .entry)) ≡ true → tidyGuard (now (guard .exit)) ≡ true) ⌝ }
 {
     let Part::Held(from, to) = page::password(page) else {
         word::unlock(guard);

@@ -36,3 +36,13 @@ guardOf p = cond (isMarked p) (locked (wordIn (drop 1 p))) unlocked
 -- the command in hand, 257 bytes; the mark says that a byte code sent it
 unfoldable pub handOf : List ℕ → Hand
 handOf p = cond (isMarked p) (byCode (wordIn (drop 1 p))) empty
+
+-- canonical form of the guard, the command in hand and the reference of the page wanted: their lengths, and zeros past what they hold
+unfoldable pub tidyGuard : List ℕ → Bool
+tidyGuard p = cond (eqb (length p) 18) (tidyMarked p) false
+
+unfoldable pub tidyHand : List ℕ → Bool
+tidyHand p = cond (eqb (length p) 257) (tidyMarked p) false
+
+unfoldable pub tidyWanted : List ℕ → Bool
+tidyWanted p = cond (eqb (length p) 66) (tidyWord p) false

@@ -1,0 +1,4 @@
+pub mod Parts
+pub mod PageLaws
+pub mod CreateLaws
+pub mod RestLaws
