@@ -1,7 +1,7 @@
 -- The canonical form: a state that is a card is in it, and two canonical states with the same card are the same state.
 -- Assumes nothing.
 use Prim.Native.Nat.{ℕ, _≤_}
-use mathlib.Core.Bool.{Bool, true, false, cond}
+use mathlib.Core.Bool.{true, false, cond}
 use mathlib.Core.List.{List}
 use mathlib.Core.Path.{_≡_, refl, sym, ap, _∙_}
 use native.Mathlib.Omega.{arith}
@@ -20,7 +20,8 @@ use Rattle.records.specs.Records.{tidyRecords}
 use Rattle.records.proofs.Same.{records-same}
 use Rattle.trail.specs.Trail.{tidyTrail}
 use Rattle.trail.proofs.Same.{trail-same}
-use Rattle.word.specs.Word.{wordIn, guardOf, handOf, tidyWord, tidyMarked, tidyGuard, tidyHand, tidyWanted}
+use Rattle.word.specs.Word.{wordIn, guardOf, handOf, tidyGuard, tidyHand, tidyWanted}
+use Rattle.word.proofs.Parts.{guard-marked, guard-long, hand-marked, hand-long, wanted-word, wanted-long}
 use Rattle.word.proofs.Same.{guard-same, hand-same, word-same}
 use Rattle.state.specs.declared.State.{State}
 use Rattle.state.specs.State.{pageOf, runOf, card, tidyPage, tidyWords, tidyAreas, tidy, Is, noCard, cardOf}
@@ -113,23 +114,14 @@ module _ (p : List ℕ) (n : ℕ) (t : tidyPage p n ≡ true) where
   page-laid : padded 4096 (take n p) ≡ p
   page-laid = padded-take 4096 n p page-long page-short (all-rest (leb n 4096) (zeros (drop n p)) past-length)
 
-as-long : (p q : List ℕ) (k : ℕ) (x y : Bool) → cond (eqb (length p) k) x false ≡ true → cond (eqb (length q) k) y false ≡ true → length p ≡ length q
-as-long p q k x y s t = eqb-true (length p) k (all-first (eqb (length p) k) x s) ∙ sym (eqb-true (length q) k (all-first (eqb (length q) k) y t))
-
 guards-same : (p q : List ℕ) → tidyGuard p ≡ true → tidyGuard q ≡ true → guardOf p ≡ guardOf q → p ≡ q
-unfolding tidyGuard
-guards-same p q s t =
-    guard-same p q (as-long p q 18 (tidyMarked p) (tidyMarked q) s t) (all-rest (eqb (length p) 18) (tidyMarked p) s) (all-rest (eqb (length q) 18) (tidyMarked q) t)
+guards-same p q s t = guard-same p q (guard-long p s ∙ sym (guard-long q t)) (guard-marked p s) (guard-marked q t)
 
 hands-same : (p q : List ℕ) → tidyHand p ≡ true → tidyHand q ≡ true → handOf p ≡ handOf q → p ≡ q
-unfolding tidyHand
-hands-same p q s t =
-    hand-same p q (as-long p q 257 (tidyMarked p) (tidyMarked q) s t) (all-rest (eqb (length p) 257) (tidyMarked p) s) (all-rest (eqb (length q) 257) (tidyMarked q) t)
+hands-same p q s t = hand-same p q (hand-long p s ∙ sym (hand-long q t)) (hand-marked p s) (hand-marked q t)
 
 wanted-same : (p q : List ℕ) → tidyWanted p ≡ true → tidyWanted q ≡ true → wordIn p ≡ wordIn q → p ≡ q
-unfolding tidyWanted
-wanted-same p q s t =
-    word-same p q (as-long p q 66 (tidyWord p) (tidyWord q) s t) (all-rest (eqb (length p) 66) (tidyWord p) s) (all-rest (eqb (length q) 66) (tidyWord q) t)
+wanted-same p q s t = word-same p q (wanted-long p s ∙ sym (wanted-long q t)) (wanted-word p s) (wanted-word q t)
 
 module _ (m n : State) (s : Is m (card m)) (t : Is n (card n)) (e : card m ≡ card n) where
   page-same : m .page ≡ n .page
