@@ -2,3 +2,4 @@ pub mod Parts
 pub mod PageLaws
 pub mod CreateLaws
 pub mod RestLaws
+pub mod Canonical
