@@ -89,7 +89,7 @@ branch-silent : (c : Card) (r : List ℕ) → SilentPlan (branch c r)
 unfolding branch
 branch-silent c r = branchBy-silent c r (target (c .run .page) r)
 
-perform-silent : (c : Card) (next : ℕ) (a : Action) → SilentPlan (perform c next finish a)
+pub perform-silent : (c : Card) (next : ℕ) (a : Action) → SilentPlan (perform c next finish a)
 unfolding perform
 perform-silent c next Pass = tt
 perform-silent c next Next = tt

@@ -80,7 +80,7 @@ choice-short c start stop f =
     by-short (c .run .page) (worse (unserved (service (c .run .page)) (area (getD (c .run .page) start 0))) (casesComplaint (c .run .page) (tlvs 0 (c .run .page) (start + 1) stop))) (branchSlot (bare c) (tlvs 0 (c .run .page) (start + 1) stop) (read (bare c) (getD (c .run .page) start 0)))
     (slot-short c (tlvs 0 (c .run .page) (start + 1) stop) f (read (bare c) (getD (c .run .page) start 0)))
 
-bounded : (s : List ℕ) (a : Action) → GoRef s a → Bounded s a
+pub bounded : (s : List ℕ) (a : Action) → GoRef s a → Bounded s a
 bounded s Pass g = tt
 bounded s Next g = tt
 bounded s Quit g = tt

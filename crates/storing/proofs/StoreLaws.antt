@@ -105,7 +105,7 @@ module _ (m : State) (c : Card) (is : Is m c) (s : List ℕ) (p : s ≡ take (m 
   view-is = rw (page-is, is .environment, is .temporary, is .permanent) refl
 
   module _ (t q : List ℕ) (i : tidySlots (m .temporary) ≡ true → tidySlots t ≡ true) (j : tidyRecords (m .permanent) ≡ true → tidyRecords q ≡ true) where
-    stored-is : Is (record { page = m .page; len = m .len; environment = m .environment; temporary = t; permanent = q; trail = m .trail; guard = m .guard; hand = m .hand; wanted = m .wanted; unit = m .unit; place = m .place }) (over c (records q) (slots t))
+    pub stored-is : Is (record { page = m .page; len = m .len; environment = m .environment; temporary = t; permanent = q; trail = m .trail; guard = m .guard; hand = m .hand; wanted = m .wanted; unit = m .unit; place = m .place }) (over c (records q) (slots t))
     unfolding pageOf
     stored-is =
         record {

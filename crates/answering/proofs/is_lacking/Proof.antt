@@ -1,0 +1,28 @@
+-- `answering::is_lacking` meets its contract.
+-- Assumes nothing.
+use Rattle.answering.proofs.AnswerLaws.{lacking-laws}
+use borrow.Author.Needs.{needs}
+use Rattle.answering.proofs.is_lacking.Statement.{statement}
+use Rattle.answering.proofs.is_lacking.Tie as tie
+
+enum-known-t : tie.Need-enum-known-t
+enum-known-t c = search needs
+
+enum-told : tie.Need-enum-told
+enum-told c = search needs
+
+enum-told-2 : tie.Need-enum-told-2
+enum-told-2 c = search needs
+
+returns : tie.Need-returns
+returns c = search (needs, lacking-laws)
+
+returns-2 : tie.Need-returns-2
+returns-2 c = search (needs, lacking-laws)
+
+returns-3 : tie.Need-returns-3
+returns-3 c = search (needs, lacking-laws)
+
+pub is-lacking-spec : {M : Type 1} → statement M
+is-lacking-spec =
+    tie.close (tie.spec enum-known-t enum-told enum-told-2 returns returns-2 returns-3)
