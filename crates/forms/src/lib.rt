@@ -5,12 +5,15 @@ use rules::Pair;
 use rules::Part;
 use rules::Spot;
 ghost use mathlib.Core.Path.{_≡_};
-ghost use mathlib.Core.Bool.{false};
+ghost use mathlib.Core.Bool.{true, false};
 ghost use Prim.Native.Nat.{_≤_};
 ghost use lib.ListN.{length};
 ghost use Rattle.rules.specs.Tlvs.{tlvs, count};
 ghost use Rattle.rules.specs.Pieces.{pieces};
 ghost use Rattle.rules.specs.Page.{pageRow, partIn, holds};
+ghost use Rattle.rules.specs.Shape.{bodyOf};
+ghost use Rattle.rules.specs.Loader.{judgedLook};
+ghost use Rattle.forms.specs.Sound.{Seen};
 ghost use Rattle.rules.specs.Forms.{badReference, outOfPlace, takenIn, isMarked, badAnchor, sizeOf, outOfSize, longReference, bigPool, tooBig, oddHead, oddModifier, beyondAt};
 ghost use Rattle.rules.specs.Forms.{crowded as Forms·crowded, several as Forms·several, faulty as Forms·faulty};
 
@@ -327,4 +330,37 @@ pub fn faulty(
         return beyond_at(s, within, tag, start, stop);
     }
     false
+}
+
+// No class from 4 on finds a fault in a TLV, but for a bad anchor or one too many.
+pub fn is_sound(
+    s: &[u8],
+    within: usize,
+    last: u8,
+    cell: u8,
+    at: usize,
+    tag: u8,
+    start: usize,
+    stop: usize,
+) -> bool
+    requires { ⌜ stop ≤ length (now s) ⌝ }
+    requires { ⌜ start ≤ stop ⌝ }
+    ensures { λ r. ⌜ (r ≡ true → Seen (now (s .entry)) within last cell at tag start stop (judgedLook (bodyOf (now (s .entry)) within tag start stop))) ⌝ }
+{
+    if out_of_place(s, last, cell, tag, start, stop) {
+        return false;
+    }
+    if beyond_at(s, within, tag, start, stop) {
+        return false;
+    }
+    if out_of_size(size_of(tag), stop - start) {
+        return false;
+    }
+    if tag == 0x0C {
+        return !long_reference(stop - start, reference::mark(&s[start..stop]));
+    }
+    if tag == 0x07 {
+        return !big_pool(s, start, stop);
+    }
+    true
 }

@@ -1,4 +1,6 @@
 pub mod LookLaws
 pub mod WalkLaws
 pub mod StructureLaws
+pub mod Front
+pub mod CleanLaws
 pub mod JudgeLaws

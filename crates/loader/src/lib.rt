@@ -5,16 +5,17 @@ use rules::Head;
 use rules::Judged;
 use rules::Look;
 ghost use mathlib.Core.Path.{_≡_};
-ghost use mathlib.Core.Bool.{cond};
+ghost use mathlib.Core.Bool.{true, cond};
 ghost use mathlib.Core.List.{[], _∷_};
 ghost use lib.Dec.{eqb};
-ghost use Prim.Native.Nat.{_≤_};
+ghost use Prim.Native.Nat.{_≤_, _-_};
 ghost use lib.ListN.{length};
-ghost use Rattle.rules.specs.Tlvs.{tlvs};
+ghost use Rattle.rules.specs.Tlvs.{tlvs, plain};
 ghost use Rattle.rules.specs.Grammar.{cellOf, gapOf};
 ghost use Rattle.rules.specs.Shape.{bodyOf};
 ghost use Rattle.rules.specs.Loader.{shapeLook, judgedLook, look, floor, classFault, judgeBy};
 ghost use Rattle.rules.specs.Loader.{lacking as Loader·lacking, walk as Loader·walk, after as Loader·after, judge as Loader·judge};
+ghost use Rattle.loader.specs.Clean.{Admitted, Agreed, Clean};
 
 // The classes in their order, each judged over the whole page before the next.
 const CLASSES: [u8; 6] = [2, 3, 4, 5, 6, 7];
@@ -171,6 +172,123 @@ fn walk(
         at = stop;
     }
     Found::Fine
+}
+
+// Units and modifiers that a count of those left has room for, and the anchor where a unit's stands; no other place holds them.
+fn is_admitted(
+    anchor: usize,
+    gap: usize,
+    units: usize,
+    modifiers: usize,
+    at: usize,
+    tag: u8,
+) -> bool
+    ensures { λ r. ⌜ (r ≡ true → Admitted anchor gap units modifiers at tag) ⌝ }
+{
+    if tag == 0x0B {
+        return at == anchor;
+    }
+    if tag % 128 == 0x0A {
+        if gap == 0 {
+            return 0 < units;
+        }
+        return false;
+    }
+    if tag % 128 == 0x08 {
+        if gap == 0 {
+            return 0 < modifiers;
+        }
+        return false;
+    }
+    true
+}
+
+// How many TLVs with a tag may still stand after one of some tag.
+fn left_after(left: usize, counted: u8, tag: u8) -> usize
+    ensures { λ r. ⌜ r ≡ cond (eqb (plain tag) counted) (left - 1) left ⌝ }
+{
+    if tag % 128 == counted {
+        if left == 0 {
+            return 0;
+        }
+        return left - 1;
+    }
+    left
+}
+
+// A TLV as all the classes from 4 on see it, `Fault` where they may differ.
+fn clean_look(
+    s: &[u8],
+    within: usize,
+    anchor: usize,
+    gap: usize,
+    units: usize,
+    modifiers: usize,
+    last: u8,
+    cell: u8,
+    at: usize,
+    tag: u8,
+    start: usize,
+    stop: usize,
+) -> Look
+    requires { ⌜ stop ≤ length (now s) ⌝ }
+    requires { ⌜ start ≤ stop ⌝ }
+    ensures { λ r. ⌜ ((r ≡ Look.Fault → ⊥) → Agreed (now (s .entry)) within anchor gap units modifiers last cell at tag start stop r) ⌝ }
+{
+    if is_admitted(anchor, gap, units, modifiers, at, tag) {
+        if forms::is_sound(s, within, last, cell, at, tag, start, stop) {
+            return judged_look(s, within, tag, start, stop);
+        }
+        return Look::Fault;
+    }
+    Look::Fault
+}
+
+// No class from 4 on finds a fault in a container, where an anchor may stand at one place and some modifiers.
+fn clean(
+    s: &[u8],
+    within: usize,
+    anchor: usize,
+    room: usize,
+    from: usize,
+    end: usize,
+    left: usize,
+) -> bool
+    requires { ⌜ end ≤ length (now s) ⌝ }
+    requires { ⌜ from ≤ end ⌝ }
+    ensures { λ r. ⌜ (r ≡ true → Clean (now (s .entry)) within anchor room from end left) ⌝ }
+{
+    if left == 0 {
+        return true;
+    }
+    if grammar::lacks(s, within, from, end) {
+        return false;
+    }
+    let gap = grammar::gap_of(within);
+    let mut at = from;
+    let mut last: u8 = 0;
+    let mut modifiers = room;
+    while gap < end - at {
+        let place = at + gap;
+        let Head::Tlv(t, start, stop) = tlv::head_at(s, place, end) else {
+            return false;
+        };
+        let cell = grammar::cell_of(within, t);
+        let fewer = left_after(modifiers, 0x08, t);
+        match clean_look(s, within, anchor, gap, 0, modifiers, last, cell, place, t, start, stop) {
+            Look::Fault => return false,
+            Look::Over => {}
+            Look::Into(kind, p) => {
+                if !clean(s, kind, stop, 0, p, stop, left - 1) {
+                    return false;
+                }
+            }
+        }
+        modifiers = fewer;
+        last = cell;
+        at = stop;
+    }
+    true
 }
 
 // Bytes after the page are class 2's.
