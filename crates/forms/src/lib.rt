@@ -103,7 +103,7 @@ fn taken(s: &[u8], name: &[u8], place: usize) -> bool
 }
 
 // Class 5: an anchor with '23', or equal to an earlier one.
-fn bad_anchor(s: &[u8], at: usize, tag: u8, start: usize, stop: usize) -> bool
+pub fn bad_anchor(s: &[u8], at: usize, tag: u8, start: usize, stop: usize) -> bool
     requires { ⌜ stop ≤ length (now s) ⌝ }
     requires { ⌜ start ≤ stop ⌝ }
     ensures { λ r. ⌜ r ≡ badAnchor (now (s .entry)) at tag start stop ⌝ }

@@ -26,7 +26,7 @@ use Rattle.tlv.proofs.Bounds.{head-tlv}
 use Rattle.tlv.proofs.Rows.{tlvs-tlv}
 use Rattle.forms.specs.Sound.{Seen}
 use Rattle.forms.proofs.NameLaws.{anchor-none, crowded-none}
-use Rattle.loader.specs.Clean.{Admitted, Agreed, Fresh, Known, Clean}
+use Rattle.loader.specs.Clean.{Admitted, Agreed, FreshHead, Fresh, Known, Clean}
 use Rattle.loader.proofs.LookLaws.{look-into}
 use Rattle.loader.proofs.WalkLaws.{Left, w-floor, w-start, w-done}
 use Rattle.loader.proofs.Front.{Counted, counted-none, counted-here, counted-on}
@@ -34,7 +34,11 @@ use Rattle.loader.proofs.Front.{Counted, counted-none, counted-here, co
 pub never : {A : Type 0} → false ≡ true → A
 never e = absurd (false≢true e)
 
-is-so : (b : Bool) → not b ≡ false → b ≡ true
+pub is-no : (b : Bool) → not b ≡ true → b ≡ false
+is-no true e = cc
+is-no false e = refl
+
+pub is-so : (b : Bool) → not b ≡ false → b ≡ true
 is-so true e = refl
 is-so false e = cc
 
@@ -132,6 +136,11 @@ floor-none : (class within from end : ℕ) → 4 ≤ class → Fine ≡ floor cl
 unfolding floor
 floor-none class within from end c = simp (ne-eqb class 3 (λ e. omega arith))
 
+pub lack-none : (s : List ℕ) (class within from end : ℕ) (b : Bool) → b ≡ lacks within end (tlvs (gapOf within) s from end) → b ≡ false
+    → false ≡ lacking class within end (tlvs (gapOf within) s from end)
+unfolding lacking
+lack-none s class within from end b e x = both (eqb class 4) (λ t. simp (t, sym e ∙ x)) (λ t. simp t)
+
 known-below : (s : List ℕ) (class anchor room end stop : ℕ) → Known s class anchor room end → Known s class stop 0 stop
 unfolding Known
 known-below s class anchor room end stop k = (λ q h. let no : ⊥ = omega arith in absurd no, λ q. let y = k .1 q in omega arith)
@@ -143,10 +152,8 @@ module _ (s : List ℕ) (within anchor room from end left : ℕ) where
 
   pub c-start : (left ≡ 0 → ⊥) → (b : Bool) → b ≡ lacks within end (tlvs (gapOf within) s from end) → b ≡ false → (gap : ℕ) → gap ≡ gapOf within
       → Rest s within anchor room from gap end left from 0
-  unfolding Rest lacking
-  c-start z b e x gap g class own c k =
-      let l : false ≡ lacking class within end (tlvs (gapOf within) s from end) = both (eqb class 4) (λ t. simp (t, sym e ∙ x)) (λ t. simp t) in
-      w-start s class within own from end left z false l refl gap g
+  unfolding Rest
+  c-start z b e x gap g class own c k = w-start s class within own from end left z false (lack-none s class within from end b e x) refl gap g
 
 module _ (s : List ℕ) (within anchor room from gap end left at last modifiers : ℕ) (inv : Rest s within anchor room from gap end left at last) where
   pub c-done : end - at ≤ gap → true ≡ true → Clean s within anchor room from end left
@@ -172,8 +179,8 @@ module _ (s : List ℕ) (within anchor room from gap end left at last modifiers 
           (λ x. let y = eqb-true t 0x0B x in
           let p = admitted .0 y in
           let b = head-tlv s (at + gap) end (sym is ∙ e) in
-          let f = k .0 q (omega arith) start stop (sym (ap (λ p. headAt s p end) p) ∙ sym is ∙ e ∙ ap (λ x. Tlv x start stop) y) in
-          simp (y, p, f))
+          let f = subst (FreshHead s anchor) (sym (ap (λ p. headAt s p end) p) ∙ sym is ∙ e) (k .0 q (omega arith)) y in
+          ap (λ p. badAnchor s p t start stop) p ∙ f)
           (λ x. sym (anchor-none s (at + gap) t start stop (eqb-false t 0x0B x)))
 
       uncrowded : (class : ℕ) → Known s class anchor room end → class ≡ 6 → crowded s within from (at + gap) t ≡ false

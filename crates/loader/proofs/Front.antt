@@ -83,3 +83,17 @@ module _ (counted : ℕ) (s : List ℕ) (gap from room : ℕ) where
           omega arith,
           λ p h. inv .1 p (omega arith) ∙ simp (tlvs-tlv gap s at p (omega arith) (head-front s (at + gap) end p e h), t, l),
         ))
+
+-- the same where nothing stands between the TLVs
+module _ (counted : ℕ) (s : List ℕ) (from room at left : ℕ) (inv : Counted counted s 0 from room at left) where
+  here : at + 0 ≡ at
+  here = omega arith
+
+  pub row-counted-here : count counted (tlvs 0 s from at) ≡ room - left
+  row-counted-here = sym (ap (λ p. count counted (tlvs 0 s from p)) here) ∙ counted-here counted s 0 from room at left inv refl
+
+  pub row-counted-on : (end : ℕ) {tag start stop : ℕ} → headAt s at end ≡ Tlv tag start stop → (tag % 128 ≡ counted → 0 < left)
+      → (less : ℕ) → less ≡ cond (eqb (plain tag) counted) (left - 1) left → Counted counted s 0 from room stop less
+  row-counted-on end {tag} {start} {stop} e =
+      let e′ : headAt s (at + 0) end ≡ Tlv tag start stop = rw here e in
+      counted-on counted s 0 from room at left inv end e′

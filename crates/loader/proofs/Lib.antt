@@ -3,4 +3,5 @@ pub mod WalkLaws
 pub mod StructureLaws
 pub mod Front
 pub mod CleanLaws
+pub mod PageLaws
 pub mod JudgeLaws

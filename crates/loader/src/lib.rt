@@ -15,7 +15,7 @@ ghost use Rattle.rules.specs.Grammar.{cellOf, gapOf};
 ghost use Rattle.rules.specs.Shape.{bodyOf};
 ghost use Rattle.rules.specs.Loader.{shapeLook, judgedLook, look, floor, classFault, judgeBy};
 ghost use Rattle.rules.specs.Loader.{lacking as Loader·lacking, walk as Loader·walk, after as Loader·after, judge as Loader·judge};
-ghost use Rattle.loader.specs.Clean.{Admitted, Agreed, Clean};
+ghost use Rattle.loader.specs.Clean.{Admitted, Agreed, Fresh, Clean, PartClean, RowClean, PageClean};
 
 // The classes in their order, each judged over the whole page before the next.
 const CLASSES: [u8; 6] = [2, 3, 4, 5, 6, 7];
@@ -24,6 +24,14 @@ const CLASSES: [u8; 6] = [2, 3, 4, 5, 6, 7];
 const PAGE: usize = 4096;
 
 const LEVELS: usize = 8;
+
+// The levels from that of a unit's TLVs on.
+const UNIT_LEVELS: usize = 6;
+
+// The most units of a page, and modifiers in force.
+const UNITS: usize = 64;
+
+const MODIFIERS: usize = 32;
 
 // A TLV as classes 2 and 3 see it.
 fn shape_look(s: &[u8], within: usize, tag: u8, start: usize, stop: usize) -> Look
@@ -289,6 +297,122 @@ fn clean(
         at = stop;
     }
     true
+}
+
+// The anchor that a unit begins with is not bad.
+fn anchor_clean(s: &[u8], from: usize, end: usize) -> bool
+    requires { ⌜ end ≤ length (now s) ⌝ }
+    ensures { λ r. ⌜ (r ≡ true → Fresh (now (s .entry)) from end) ⌝ }
+{
+    let Head::Tlv(t, start, stop) = tlv::head_at(s, from, end) else {
+        return true;
+    };
+    if t == 0x0B {
+        return !forms::bad_anchor(s, from, t, start, stop);
+    }
+    true
+}
+
+// No class from 4 on finds a fault in what a part of the page holds, a unit with room for so many modifiers.
+fn part_clean(s: &[u8], room: usize, tag: u8, kind: usize, from: usize, stop: usize) -> bool
+    requires { ⌜ stop ≤ length (now s) ⌝ }
+    requires { ⌜ from ≤ stop ⌝ }
+    ensures { λ r. ⌜ (r ≡ true → PartClean (now (s .entry)) room kind from stop) ⌝ }
+{
+    if tag % 128 == 0x0A {
+        if anchor_clean(s, from, stop) {
+            return clean(s, kind, from, room, from, stop, UNIT_LEVELS);
+        }
+        return false;
+    }
+    clean(s, kind, stop, 0, from, stop, UNIT_LEVELS)
+}
+
+// No class from 4 on finds a fault in the page's parts.
+fn row_clean(s: &[u8], from: usize, end: usize) -> bool
+    requires { ⌜ end ≤ length (now s) ⌝ }
+    requires { ⌜ from ≤ end ⌝ }
+    ensures { λ r. ⌜ (r ≡ true → RowClean (now (s .entry)) from end) ⌝ }
+{
+    if grammar::lacks(s, grammar::PAGE, from, end) {
+        return false;
+    }
+    let own = tlv::count_tag(s, 0x08, from, end);
+    if MODIFIERS < own {
+        return false;
+    }
+    let room = MODIFIERS - own;
+    let mut at = from;
+    let mut last: u8 = 0;
+    let mut units = UNITS;
+    let mut modifiers = MODIFIERS;
+    while at < end {
+        let Head::Tlv(t, start, stop) = tlv::head_at(s, at, end) else {
+            return false;
+        };
+        let cell = grammar::cell_of(grammar::PAGE, t);
+        let fewer_units = left_after(units, 0x0A, t);
+        let fewer_modifiers = left_after(modifiers, 0x08, t);
+        match clean_look(
+            s,
+            grammar::PAGE,
+            end,
+            0,
+            units,
+            modifiers,
+            last,
+            cell,
+            at,
+            t,
+            start,
+            stop,
+        ) {
+            Look::Fault => return false,
+            Look::Over => {}
+            Look::Into(kind, p) => {
+                if !part_clean(s, room, t, kind, p, stop) {
+                    return false;
+                }
+            }
+        }
+        units = fewer_units;
+        modifiers = fewer_modifiers;
+        last = cell;
+        at = stop;
+    }
+    true
+}
+
+// No class from 4 on finds a fault in a page whose TLV stops at a place.
+fn page_clean(s: &[u8], stop: usize) -> bool
+    requires { ⌜ stop ≤ length (now s) ⌝ }
+    ensures { λ r. ⌜ (r ≡ true → PageClean (now (s .entry)) stop) ⌝ }
+{
+    if grammar::lacks(s, grammar::WHOLE, 0, stop) {
+        return false;
+    }
+    let Head::Tlv(t, start, end) = tlv::head_at(s, 0, stop) else {
+        return false;
+    };
+    if end != stop {
+        return false;
+    }
+    let cell = grammar::cell_of(grammar::WHOLE, t);
+    let look = clean_look(s, grammar::WHOLE, stop, 0, 0, 0, 0, cell, 0, t, start, stop);
+    let Look::Into(kind, p) = look else {
+        return false;
+    };
+    if kind != grammar::PAGE {
+        return false;
+    }
+    let row = page::page_row(s);
+    if p != row.from {
+        return false;
+    }
+    if stop != row.end {
+        return false;
+    }
+    row_clean(s, p, stop)
 }
 
 // Bytes after the page are class 2's.
