@@ -473,6 +473,9 @@ pub fn judge(page: &[u8]) -> Judged
     if let Judged::Rejected(class, p) = structure(page, stop) {
         return Judged::Rejected(class, p);
     }
+    if page_clean(page, stop) {
+        return Judged::Accepted;
+    }
     let mut i = 2;
     while i < 6 {
         let class = CLASSES[i];
