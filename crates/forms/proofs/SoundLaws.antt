@@ -25,7 +25,7 @@ is-no true e = cc
 is-no false e = refl
 
 module _ (s : List ℕ) (within last cell at tag start stop : ℕ) (o : Bool) (oe : o ≡ outOfPlace s last cell tag start stop) (ox : o ≡ false)
-  (y : Bool) (ye : y ≡ beyondAt s within tag start stop) (yx : y ≡ false) (l : ℕ) (le : l ≡ sizeOf tag) (z : Bool) (ze : z ≡ outOfSize l (stop - start)) (zx : z ≡ false) where
+    (y : Bool) (ye : y ≡ beyondAt s within tag start stop) (yx : y ≡ false) (l : ℕ) (le : l ≡ sizeOf tag) (z : Bool) (ze : z ≡ outOfSize l (stop - start)) (zx : z ≡ false) where
   sized : outOfSize (sizeOf tag) (stop - start) ≡ false
   sized = sym (rw le at ze) ∙ zx
 

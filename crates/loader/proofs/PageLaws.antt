@@ -153,8 +153,8 @@ module _ (s : List ℕ) (from end : ℕ) where
 pub ruleset page-row-laws = (r-start, r-done, r-less, r-within, r-over, r-over-units, r-over-modifiers, r-in, r-into, r-into-units, r-into-modifiers, counted-none)
 
 module _ (s : List ℕ) (stop : ℕ) (b : Bool) (be : b ≡ lacks wholeKind stop (tlvs (gapOf wholeKind) s 0 stop)) (bx : b ≡ false)
-  (h : Head) (is : h ≡ headAt s 0 stop) (t start end : ℕ) (e : h ≡ Tlv t start end) (y : end ≡ stop) (cell : ℕ) (ce : cell ≡ cellOf wholeKind t)
-  (l : Look) (ag : (l ≡ Fault → ⊥) → Agreed s wholeKind stop 0 0 0 0 cell 0 t start stop l) (kind p : ℕ) (x : l ≡ Into kind p) where
+    (h : Head) (is : h ≡ headAt s 0 stop) (t start end : ℕ) (e : h ≡ Tlv t start end) (y : end ≡ stop) (cell : ℕ) (ce : cell ≡ cellOf wholeKind t)
+    (l : Look) (ag : (l ≡ Fault → ⊥) → Agreed s wholeKind stop 0 0 0 0 cell 0 t start stop l) (kind p : ℕ) (x : l ≡ Into kind p) where
   pub whole-value : start ≤ stop
   whole-value = let b = head-tlv s 0 stop (sym is ∙ e) in omega arith
 

@@ -283,7 +283,20 @@ fn clean(
         };
         let cell = grammar::cell_of(within, t);
         let fewer = left_after(modifiers, 0x08, t);
-        match clean_look(s, within, anchor, gap, 0, modifiers, last, cell, place, t, start, stop) {
+        match clean_look(
+            s,
+            within,
+            anchor,
+            gap,
+            0,
+            modifiers,
+            last,
+            cell,
+            place,
+            t,
+            start,
+            stop,
+        ) {
             Look::Fault => return false,
             Look::Over => {}
             Look::Into(kind, p) => {
