@@ -5,7 +5,7 @@ use mathlib.Core.Bool.{Bool, true, false, cond, not}
 use mathlib.Core.List.{List}
 use mathlib.Core.Path.{_≡_, refl, sym, subst, ap, _∙_}
 use native.Mathlib.Omega.{arith}
-use lib.ListN.{length}
+use lib.ListN.{getD, take, drop, length-replicate}
 use lib.Dec.{eqb, leb}
 use borrow.Author.Tests.{lt-leb, eq-eqb, ne-eqb, eqb-true, eqb-false}
 use Rattle.rules.specs.declared.Head.{Head}
@@ -14,11 +14,15 @@ use Rattle.rules.specs.declared.Look.{Look}
 use Rattle.rules.specs.declared.Look.the-variants.{Fault, Over, Into}
 use Rattle.rules.specs.declared.Found.{Found}
 use Rattle.rules.specs.declared.Found.the-variants.{Fine, At}
+use Rattle.rules.specs.declared.Spot.{Spot}
+use Rattle.rules.specs.declared.Spot.the-variants.{After, Cut}
+use Rattle.rules.specs.Bytes.{part}
 use Rattle.rules.specs.Tlv.{headAt}
 use Rattle.rules.specs.Tlvs.{tlvs, plain, count}
 use Rattle.rules.specs.Grammar.{cellOf, gapOf, lacks, pageKind, wholeKind}
-use Rattle.rules.specs.Page.{pageHead, pageRow}
-use Rattle.rules.specs.Forms.{badAnchor, crowded}
+use Rattle.rules.specs.Page.{contentAt, pageHead, pageRow}
+use Rattle.rules.specs.Reference.{mark}
+use Rattle.rules.specs.Forms.{isMarked, badAnchor, crowded}
 use Rattle.rules.specs.Loader.{look, orThen, goes, rowFault, walk}
 use Rattle.leaf.proofs.Cases.{both}
 use Rattle.tlv.proofs.Bounds.{head-tlv}
@@ -27,35 +31,42 @@ use Rattle.page.specs.declared.Span.{Span}
 use Rattle.page.specs.Span.{spanOf}
 use Rattle.page.proofs.Spans.{span-row}
 use Rattle.forms.proofs.NameLaws.{anchor-none, crowded-unit, crowded-none, crowded-page}
-use Rattle.loader.specs.Clean.{Admitted, Agreed, FreshHead, Fresh, Known, Clean, PartClean, RowClean, PageClean}
+use Rattle.loader.specs.Clean.{Admitted, Agreed, anchorSlot, UntakenHead, Untaken, FreshHead, Fresh, FreshIf, Known, Clean, PartClean, RowClean, PageClean}
 use Rattle.loader.proofs.WalkLaws.{w-start}
 use Rattle.loader.proofs.CleanLaws.{is-no, is-so, lack-none, over-not, into-not, agreed-in}
+use Rattle.loader.proofs.SlotLaws.{Unseen, unseen-start, unseen-here}
 use Rattle.loader.proofs.Front.{Counted, counted-none, row-counted-here, row-counted-on}
 
-module _ (s : List ℕ) (from end : ℕ) (h : Head) (is : h ≡ headAt s from end) where
-  pub fresh-past : h ≡ Past → true ≡ true → Fresh s from end
-  unfolding Fresh
-  fresh-past e x = subst (FreshHead s from) (sym (sym is ∙ e)) tt
+module _ (s : List ℕ) (seen from end : ℕ) (h : Head) (is : h ≡ headAt s from end) where
+  pub fresh-past : h ≡ Past → true ≡ true → FreshIf s seen from end
+  unfolding FreshIf Fresh
+  fresh-past e x u = subst (FreshHead s from) (sym (sym is ∙ e)) tt
 
   module _ (t start stop : ℕ) (e : h ≡ Tlv t start stop) where
-    pub fresh-other : (t ≡ 0x0B → ⊥) → true ≡ true → Fresh s from end
-    unfolding Fresh
-    fresh-other n x = subst (FreshHead s from) (sym (sym is ∙ e)) (λ y. absurd (n y))
+    pub fresh-other : (t ≡ 0x0B → ⊥) → true ≡ true → FreshIf s seen from end
+    unfolding FreshIf Fresh
+    fresh-other n x u = subst (FreshHead s from) (sym (sym is ∙ e)) (λ y. absurd (n y))
 
-    pub fresh-anchor : (r : Bool) → r ≡ badAnchor s from t start stop → not r ≡ true → Fresh s from end
-    unfolding Fresh
-    fresh-anchor r re x = subst (FreshHead s from) (sym (sym is ∙ e)) (λ y. sym re ∙ is-no r x)
+    pub fresh-unseen : seen ≡ 0 → (m : Spot) → m ≡ mark (take (stop - start) (drop start s)) → m ≡ Cut → true ≡ true → FreshIf s seen from end
+    unfolding FreshIf Fresh Untaken badAnchor isMarked part
+    fresh-unseen z m f c x u =
+        subst (FreshHead s from) (sym (sym is ∙ e)) (λ y. let n = subst (UntakenHead s from) (sym is ∙ e) (u z) y in simp (eq-eqb t 0x0B y, sym f ∙ c, n))
 
-pub ruleset fresh-laws = (fresh-past, fresh-other, fresh-anchor)
+    pub fresh-anchor : (r : Bool) → r ≡ badAnchor s from t start stop → not r ≡ true → FreshIf s seen from end
+    unfolding FreshIf Fresh
+    fresh-anchor r re x u = subst (FreshHead s from) (sym (sym is ∙ e)) (λ y. sym re ∙ is-no r x)
 
-module _ (s : List ℕ) (room kind from stop : ℕ) where
-  pub part-unit : (a : Bool) → (a ≡ true → Fresh s from stop) → a ≡ true → (r : Bool) → (r ≡ true → Clean s kind from room from stop 6) → r ≡ true → PartClean s room kind from stop
+pub ruleset fresh-laws = (fresh-past, fresh-other, fresh-unseen, fresh-anchor)
+
+module _ (s : List ℕ) (room seen tag start kind from stop : ℕ) where
+  pub part-unit : tag % 128 ≡ 0x0A → (p : ℕ) → p ≡ contentAt s tag start stop → from ≡ p → (a : Bool) → (a ≡ true → FreshIf s seen from stop) → a ≡ true
+      → (r : Bool) → (r ≡ true → Clean s kind from room from stop 6) → r ≡ true → PartClean s room seen tag start kind from stop
+  unfolding FreshIf PartClean Clean Known
+  part-unit t p pe q a ae ax r re rx class own c k u = re rx class own c (λ x h. ae ax (λ z. subst (λ n. Untaken s n stop) (sym (q ∙ pe)) (u t z)), λ x. k)
+
+  pub part-other : (r : Bool) → (r ≡ true → Clean s kind stop 0 from stop 6) → r ≡ true → PartClean s room seen tag start kind from stop
   unfolding PartClean Clean Known
-  part-unit a ae ax r re rx class own c k = re rx class own c (λ q h. ae ax, λ q. k)
-
-  pub part-other : (r : Bool) → (r ≡ true → Clean s kind stop 0 from stop 6) → r ≡ true → PartClean s room kind from stop
-  unfolding PartClean Clean Known
-  part-other r re rx class own c k = re rx class own c (λ q h. let no : ⊥ = omega arith in absurd no, λ q. omega arith)
+  part-other r re rx class own c k u = re rx class own c (λ x h. let no : ⊥ = omega arith in absurd no, λ x. omega arith)
 
 pub ruleset part-laws = (part-unit, part-other)
 
@@ -143,14 +154,15 @@ module _ (s : List ℕ) (from end : ℕ) where
             pub r-into-modifiers : (less : ℕ) → less ≡ cond (eqb (plain t) 0x08) (modifiers - 1) modifiers → Counted 0x08 s 0 from 32 stop less
             r-into-modifiers = modifiers-on cell ce l ag (into-not l kind p x)
 
-            pub r-into : (room own : ℕ) → own ≡ count 0x08 (tlvs 0 s from end) → room + own ≤ 32 → (r : Bool) → (r ≡ true → PartClean s room kind p stop) → not r ≡ false → Rest s from end stop cell
+            pub r-into : (room own : ℕ) → own ≡ count 0x08 (tlvs 0 s from end) → room + own ≤ 32 → (slots : List ℕ) → Unseen s from end at slots → (slot : ℕ) → slot ≡ anchorSlot s t start stop
+                → (r : Bool) → (r ≡ true → PartClean s room (getD slots slot 0) t start kind p stop) → not r ≡ false → Rest s from end stop cell
             unfolding Rest PartClean goes orThen
-            r-into room own oe ol r re rx w class o c =
+            r-into room own oe ol slots un slot se r re rx w class o c =
                 let k : own ≡ count 0x08 (pageRow s) = oe ∙ ap (count 0x08) w in
-                let f = re (is-so r rx) class at c (omega arith) in
+                let f = re (is-so r rx) class at c (omega arith) (λ y z. unseen-here s from end at slots un go h is t start stop e slot se w y z) in
                 sym (on cell ce l ag (into-not l kind p x) class c ∙ simp (x, f)) ∙ inv w class o c
 
-pub ruleset page-row-laws = (r-start, r-done, r-less, r-within, r-over, r-over-units, r-over-modifiers, r-in, r-into, r-into-units, r-into-modifiers, counted-none)
+pub ruleset page-row-laws = (r-start, r-done, r-less, r-within, r-over, r-over-units, r-over-modifiers, r-in, r-into, r-into-units, r-into-modifiers, counted-none, unseen-start, length-replicate)
 
 module _ (s : List ℕ) (stop : ℕ) (b : Bool) (be : b ≡ lacks wholeKind stop (tlvs (gapOf wholeKind) s 0 stop)) (bx : b ≡ false)
     (h : Head) (is : h ≡ headAt s 0 stop) (t start end : ℕ) (e : h ≡ Tlv t start end) (y : end ≡ stop) (cell : ℕ) (ce : cell ≡ cellOf wholeKind t)

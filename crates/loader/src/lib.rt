@@ -4,18 +4,20 @@ use rules::Found;
 use rules::Head;
 use rules::Judged;
 use rules::Look;
+use rules::Part;
+use rules::Spot;
 ghost use mathlib.Core.Path.{_≡_};
 ghost use mathlib.Core.Bool.{true, cond};
 ghost use mathlib.Core.List.{[], _∷_};
 ghost use lib.Dec.{eqb};
-ghost use Prim.Native.Nat.{_≤_, _-_};
+ghost use Prim.Native.Nat.{_≤_, _<_, _-_};
 ghost use lib.ListN.{length};
 ghost use Rattle.rules.specs.Tlvs.{tlvs, plain};
 ghost use Rattle.rules.specs.Grammar.{cellOf, gapOf};
 ghost use Rattle.rules.specs.Shape.{bodyOf};
 ghost use Rattle.rules.specs.Loader.{shapeLook, judgedLook, look, floor, classFault, judgeBy};
 ghost use Rattle.rules.specs.Loader.{lacking as Loader·lacking, walk as Loader·walk, after as Loader·after, judge as Loader·judge};
-ghost use Rattle.loader.specs.Clean.{Admitted, Agreed, Fresh, Clean, PartClean, RowClean, PageClean};
+ghost use Rattle.loader.specs.Clean.{Admitted, Agreed, slotOf, anchorSlot, FreshIf, Clean, PartClean, RowClean, PageClean};
 
 // The classes in their order, each judged over the whole page before the next.
 const CLASSES: [u8; 6] = [2, 3, 4, 5, 6, 7];
@@ -27,6 +29,9 @@ const LEVELS: usize = 8;
 
 // The levels from that of a unit's TLVs on.
 const UNIT_LEVELS: usize = 6;
+
+// How many slots the names of anchors fall into.
+const SLOTS: usize = 1024;
 
 // The most units of a page, and modifiers in force.
 const UNITS: usize = 64;
@@ -312,28 +317,74 @@ fn clean(
     true
 }
 
-// The anchor that a unit begins with is not bad.
-fn anchor_clean(s: &[u8], from: usize, end: usize) -> bool
+// The slot of a name: equal names have the same.
+fn slot_of(name: &[u8]) -> usize
+    ensures { λ r. ⌜ (r ≡ slotOf (now (name .entry))) × (r < 1024) ⌝ }
+{
+    let mut slot: usize = 0;
+    let mut i: usize = 0;
+    while i < name.len() {
+        slot = (slot * 31 + leaf::wide(name[i])) % SLOTS;
+        i += 1;
+    }
+    slot
+}
+
+// The slot of a unit's anchor; the one after all slots where a TLV has none.
+fn anchor_slot(s: &[u8], tag: u8, start: usize, stop: usize) -> usize
+    requires { ⌜ stop ≤ length (now s) ⌝ }
+    ensures { λ r. ⌜ (r ≡ anchorSlot (now (s .entry)) tag start stop) × (r < 1025) ⌝ }
+{
+    if tag % 128 == 0x0A {
+        let content = tlv::content_at(s, tag, start, stop);
+        let Part::Held(from, to) = page::part_in(s, 0x0B, content, stop) else {
+            return SLOTS;
+        };
+        return slot_of(&s[from..to]);
+    }
+    SLOTS
+}
+
+// The anchor that a unit begins with is not bad. Where its slot is not seen yet no earlier one is equal.
+fn anchor_clean(s: &[u8], seen: u8, from: usize, end: usize) -> bool
     requires { ⌜ end ≤ length (now s) ⌝ }
-    ensures { λ r. ⌜ (r ≡ true → Fresh (now (s .entry)) from end) ⌝ }
+    ensures { λ r. ⌜ (r ≡ true → FreshIf (now (s .entry)) seen from end) ⌝ }
 {
     let Head::Tlv(t, start, stop) = tlv::head_at(s, from, end) else {
         return true;
     };
     if t == 0x0B {
+        if seen == 0 {
+            let Spot::After(_) = reference::mark(&s[start..stop]) else {
+                return true;
+            };
+            return false;
+        }
         return !forms::bad_anchor(s, from, t, start, stop);
     }
     true
 }
 
 // No class from 4 on finds a fault in what a part of the page holds, a unit with room for so many modifiers.
-fn part_clean(s: &[u8], room: usize, tag: u8, kind: usize, from: usize, stop: usize) -> bool
+fn part_clean(
+    s: &[u8],
+    room: usize,
+    seen: u8,
+    tag: u8,
+    start: usize,
+    kind: usize,
+    from: usize,
+    stop: usize,
+) -> bool
     requires { ⌜ stop ≤ length (now s) ⌝ }
     requires { ⌜ from ≤ stop ⌝ }
-    ensures { λ r. ⌜ (r ≡ true → PartClean (now (s .entry)) room kind from stop) ⌝ }
+    ensures { λ r. ⌜ (r ≡ true → PartClean (now (s .entry)) room seen tag start kind from stop) ⌝ }
 {
     if tag % 128 == 0x0A {
-        if anchor_clean(s, from, stop) {
+        if from != tlv::content_at(s, tag, start, stop) {
+            return false;
+        }
+        if anchor_clean(s, seen, from, stop) {
             return clean(s, kind, from, room, from, stop, UNIT_LEVELS);
         }
         return false;
@@ -359,6 +410,7 @@ fn row_clean(s: &[u8], from: usize, end: usize) -> bool
     let mut last: u8 = 0;
     let mut units = UNITS;
     let mut modifiers = MODIFIERS;
+    let mut slots: [u8; 1025] = [0; 1025];
     while at < end {
         let Head::Tlv(t, start, stop) = tlv::head_at(s, at, end) else {
             return false;
@@ -366,6 +418,9 @@ fn row_clean(s: &[u8], from: usize, end: usize) -> bool
         let cell = grammar::cell_of(grammar::PAGE, t);
         let fewer_units = left_after(units, 0x0A, t);
         let fewer_modifiers = left_after(modifiers, 0x08, t);
+        let slot = anchor_slot(s, t, start, stop);
+        let seen = slots[slot];
+        slots[slot] = 1;
         match clean_look(
             s,
             grammar::PAGE,
@@ -383,7 +438,7 @@ fn row_clean(s: &[u8], from: usize, end: usize) -> bool
             Look::Fault => return false,
             Look::Over => {}
             Look::Into(kind, p) => {
-                if !part_clean(s, room, t, kind, p, stop) {
+                if !part_clean(s, room, seen, t, start, kind, p, stop) {
                     return false;
                 }
             }

@@ -2,6 +2,7 @@
 -- Assumes nothing.
 use borrow.Author.Needs.{needs}
 use Rattle.tlv.proofs.Bounds.{next-laws}
+use Rattle.loader.proofs.CleanLaws.{never}
 use Rattle.loader.proofs.PageLaws.{fresh-laws}
 use Rattle.loader.proofs.anchor_clean.Statement.{statement}
 use Rattle.loader.proofs.anchor_clean.Tie as tie
@@ -18,14 +19,38 @@ enum-told c = search needs
 returns : tie.Need-returns
 returns c = search (needs, next-laws, fresh-laws)
 
-bad-anchor-requires : tie.Need-bad-anchor-requires
-bad-anchor-requires c κs = search (needs, next-laws, fresh-laws)
+sub-mark : tie.Need-sub-mark
+sub-mark c = search (needs, next-laws, fresh-laws)
+
+part-mark-start : tie.Need-part-mark-start
+part-mark-start c = search (needs, next-laws, fresh-laws)
+
+part-mark-end : tie.Need-part-mark-end
+part-mark-end c = search (needs, next-laws, fresh-laws)
+
+mark-requires : tie.Need-mark-requires
+mark-requires c κs = search needs
+
+enum-told-2 : tie.Need-enum-told-2
+enum-told-2 c = search needs
+
+enum-told-3 : tie.Need-enum-told-3
+enum-told-3 c = search needs
 
 returns-2 : tie.Need-returns-2
 returns-2 c = search (needs, next-laws, fresh-laws)
 
 returns-3 : tie.Need-returns-3
-returns-3 c = search (needs, next-laws, fresh-laws)
+returns-3 c = never
+
+bad-anchor-requires : tie.Need-bad-anchor-requires
+bad-anchor-requires c κs = search (needs, next-laws, fresh-laws)
+
+returns-4 : tie.Need-returns-4
+returns-4 c = search (needs, next-laws, fresh-laws)
+
+returns-5 : tie.Need-returns-5
+returns-5 c = search (needs, next-laws, fresh-laws)
 
 pub anchor-clean-spec : {M : Type 1} → statement M
 anchor-clean-spec =
@@ -35,6 +60,14 @@ anchor-clean-spec =
     enum-known-t
     enum-told
     returns
-    bad-anchor-requires
+    sub-mark
+    part-mark-start
+    part-mark-end
+    mark-requires
+    enum-told-2
+    enum-told-3
     returns-2
-    returns-3)
+    returns-3
+    bad-anchor-requires
+    returns-4
+    returns-5)
