@@ -2,7 +2,6 @@
 use rules::Body;
 use rules::Head;
 use rules::Pair;
-use rules::Part;
 use rules::Spot;
 ghost use mathlib.Core.Path.{_≡_};
 ghost use mathlib.Core.Bool.{true, false};
@@ -10,7 +9,7 @@ ghost use Prim.Native.Nat.{_≤_};
 ghost use lib.ListN.{length};
 ghost use Rattle.rules.specs.Tlvs.{tlvs, count};
 ghost use Rattle.rules.specs.Pieces.{pieces};
-ghost use Rattle.rules.specs.Page.{pageRow, partIn, holds};
+ghost use Rattle.rules.specs.Page.{pageRow};
 ghost use Rattle.rules.specs.Shape.{bodyOf};
 ghost use Rattle.rules.specs.Loader.{judgedLook};
 ghost use Rattle.forms.specs.Sound.{Seen};
@@ -66,17 +65,6 @@ fn is_marked(mark: Spot) -> bool
     true
 }
 
-// The anchor of a unit whose TLVs stand from a place up to an end is the name.
-fn is_named(s: &[u8], from: usize, end: usize, name: &[u8]) -> bool
-    requires { ⌜ end ≤ length (now s) ⌝ }
-    ensures { λ r. ⌜ r ≡ holds (now (s .entry)) (now (name .entry)) (partIn 0x0B (tlvs 0 (now (s .entry)) from end)) ⌝ }
-{
-    let Part::Held(start, stop) = page::part_in(s, 0x0B, from, end) else {
-        return false;
-    };
-    leaf::same_bytes(&s[start..stop], name)
-}
-
 // Class 5: one of the units that end by a place has the name.
 fn taken(s: &[u8], name: &[u8], place: usize) -> bool
     ensures { λ r. ⌜ r ≡ takenIn (now (s .entry)) (now (name .entry)) place (pageRow (now (s .entry))) ⌝ }
@@ -93,7 +81,7 @@ fn taken(s: &[u8], name: &[u8], place: usize) -> bool
         }
         if tag % 128 == 0x0A {
             let content = tlv::content_at(s, tag, start, stop);
-            if is_named(s, content, stop, name) {
+            if reference::part_is(s, 0x0B, content, stop, name) {
                 return true;
             }
         }

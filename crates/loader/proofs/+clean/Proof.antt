@@ -51,34 +51,34 @@ clean-returns-2 : (t : ℕ) → clean-lts.Need-returns-2 (calls t) (clean-at t) 
 clean-returns-2 t c = never
 
 clean-gap-of-requires : (t : ℕ) → clean-lts.Need-gap-of-requires (calls t) (clean-at t) clean.Post clean-Inv-loop clean-μ-loop
-clean-gap-of-requires t c κs = search (needs, clean-laws)
+clean-gap-of-requires t c κs = search needs
 
 clean-loop-holds : (t : ℕ) → clean-lts.Need-loop-holds (calls t) (clean-at t) clean.Post clean-Inv-loop clean-μ-loop
 clean-loop-holds t c = search (needs, clean-laws)
 
 clean-sub-loop : (t : ℕ) → clean-lts.Need-sub-loop (calls t) (clean-at t) clean.Post clean-Inv-loop clean-μ-loop
-clean-sub-loop t c = search (needs, clean-laws)
+clean-sub-loop t c = search needs
 
 clean-add-place : (t : ℕ) → clean-lts.Need-add-place (calls t) (clean-at t) clean.Post clean-Inv-loop clean-μ-loop
-clean-add-place t c = search (needs, clean-laws)
+clean-add-place t c = search needs
 
 clean-head-at-requires : (t : ℕ) → clean-lts.Need-head-at-requires (calls t) (clean-at t) clean.Post clean-Inv-loop clean-μ-loop
 clean-head-at-requires t c κs = search (needs, clean-laws)
 
 clean-enum-known-t : (t : ℕ) → clean-lts.Need-enum-known-t (calls t) (clean-at t) clean.Post clean-Inv-loop clean-μ-loop
-clean-enum-known-t t c = search (needs, clean-laws)
+clean-enum-known-t t c = search needs
 
 clean-enum-told : (t : ℕ) → clean-lts.Need-enum-told (calls t) (clean-at t) clean.Post clean-Inv-loop clean-μ-loop
-clean-enum-told t c = search (needs, clean-laws)
+clean-enum-told t c = search needs
 
 clean-returns-3 : (t : ℕ) → clean-lts.Need-returns-3 (calls t) (clean-at t) clean.Post clean-Inv-loop clean-μ-loop
 clean-returns-3 t c = never
 
 clean-cell-of-requires : (t : ℕ) → clean-lts.Need-cell-of-requires (calls t) (clean-at t) clean.Post clean-Inv-loop clean-μ-loop
-clean-cell-of-requires t c κs = search (needs, clean-laws)
+clean-cell-of-requires t c κs = search needs
 
 clean-left-after-requires : (t : ℕ) → clean-lts.Need-left-after-requires (calls t) (clean-at t) clean.Post clean-Inv-loop clean-μ-loop
-clean-left-after-requires t c κs = search (needs, clean-laws)
+clean-left-after-requires t c κs = search needs
 
 clean-clean-look-requires : (t : ℕ) → clean-lts.Need-clean-look-requires (calls t) (clean-at t) clean.Post clean-Inv-loop clean-μ-loop
 clean-clean-look-requires t c κs =
@@ -87,19 +87,19 @@ clean-clean-look-requires t c κs =
     omega arith
 
 clean-enum-told-2 : (t : ℕ) → clean-lts.Need-enum-told-2 (calls t) (clean-at t) clean.Post clean-Inv-loop clean-μ-loop
-clean-enum-told-2 t c = search (needs, clean-laws)
+clean-enum-told-2 t c = search needs
 
 clean-returns-4 : (t : ℕ) → clean-lts.Need-returns-4 (calls t) (clean-at t) clean.Post clean-Inv-loop clean-μ-loop
 clean-returns-4 t c = never
 
 clean-enum-told-3 : (t : ℕ) → clean-lts.Need-enum-told-3 (calls t) (clean-at t) clean.Post clean-Inv-loop clean-μ-loop
-clean-enum-told-3 t c = search (needs, clean-laws)
+clean-enum-told-3 t c = search needs
 
 clean-enum-known-kind : (t : ℕ) → clean-lts.Need-enum-known-kind (calls t) (clean-at t) clean.Post clean-Inv-loop clean-μ-loop
-clean-enum-known-kind t c = search (needs, clean-laws)
+clean-enum-known-kind t c = search needs
 
 clean-sub-clean : (t : ℕ) → clean-lts.Need-sub-clean (calls t) (clean-at t) clean.Post clean-Inv-loop clean-μ-loop
-clean-sub-clean t c = search (needs, clean-laws)
+clean-sub-clean t c = search needs
 
 clean-clean-requires : (t : ℕ) → clean-lts.Need-clean-requires (calls t) (clean-at t) clean.Post clean-Inv-loop clean-μ-loop
 clean-clean-requires t c κs =

@@ -20,13 +20,13 @@ returns-2 : tie.Need-returns-2 Inv-loop μ-loop
 returns-2 c = search (needs, judge-laws)
 
 page-head-requires : tie.Need-page-head-requires Inv-loop μ-loop
-page-head-requires c κs = search (needs, judge-laws)
+page-head-requires c κs = search needs
 
 enum-known-stop : tie.Need-enum-known-stop Inv-loop μ-loop
-enum-known-stop c = search (needs, judge-laws)
+enum-known-stop c = search needs
 
 enum-told : tie.Need-enum-told Inv-loop μ-loop
-enum-told c = search (needs, judge-laws)
+enum-told c = search needs
 
 returns-3 : tie.Need-returns-3 Inv-loop μ-loop
 returns-3 c = search (needs, judge-laws)
@@ -35,13 +35,13 @@ structure-requires : tie.Need-structure-requires Inv-loop μ-loop
 structure-requires c κs = search (needs, judge-laws)
 
 enum-known-class : tie.Need-enum-known-class Inv-loop μ-loop
-enum-known-class c = search (needs, judge-laws)
+enum-known-class c = search needs
 
 returns-4 : tie.Need-returns-4 Inv-loop μ-loop
 returns-4 c = search (needs, judge-laws)
 
 enum-told-2 : tie.Need-enum-told-2 Inv-loop μ-loop
-enum-told-2 c = search (needs, judge-laws)
+enum-told-2 c = search needs
 
 page-clean-requires : tie.Need-page-clean-requires Inv-loop μ-loop
 page-clean-requires c κs = search (needs, judge-laws)
@@ -53,23 +53,23 @@ loop-holds : tie.Need-loop-holds Inv-loop μ-loop
 loop-holds c = search (needs, judge-laws)
 
 array-read-class : tie.Need-array-read-class Inv-loop μ-loop
-array-read-class c = search (needs, judge-laws)
+array-read-class c = search needs
 
 class-fault-requires : tie.Need-class-fault-requires Inv-loop μ-loop
 class-fault-requires c κs = search (needs, judge-laws)
 
 enum-known-p : tie.Need-enum-known-p Inv-loop μ-loop
-enum-known-p c = search (needs, judge-laws)
+enum-known-p c = search needs
 
 returns-6 : tie.Need-returns-6 Inv-loop μ-loop
 unfolding classes
 returns-6 c = search (needs, judge-laws)
 
 enum-told-3 : tie.Need-enum-told-3 Inv-loop μ-loop
-enum-told-3 c = search (needs, judge-laws)
+enum-told-3 c = search needs
 
 add-i : tie.Need-add-i Inv-loop μ-loop
-add-i c = search (needs, judge-laws)
+add-i c = search needs
 
 loop-less : tie.Need-loop-less Inv-loop μ-loop
 loop-less c = search (needs, judge-laws)

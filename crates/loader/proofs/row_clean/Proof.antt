@@ -41,46 +41,46 @@ head-at-requires : tie.Need-head-at-requires Inv-loop μ-loop
 head-at-requires c κs = search (needs, next-laws, page-row-laws)
 
 enum-known-t : tie.Need-enum-known-t Inv-loop μ-loop
-enum-known-t c = search (needs, next-laws, page-row-laws)
+enum-known-t c = search needs
 
 enum-told : tie.Need-enum-told Inv-loop μ-loop
-enum-told c = search (needs, next-laws, page-row-laws)
+enum-told c = search needs
 
 returns-3 : tie.Need-returns-3 Inv-loop μ-loop
 returns-3 c = never
 
 cell-of-requires : tie.Need-cell-of-requires Inv-loop μ-loop
-cell-of-requires c κs = search (needs, next-laws, page-row-laws)
+cell-of-requires c κs = search needs
 
 left-after-requires : tie.Need-left-after-requires Inv-loop μ-loop
-left-after-requires c κs = search (needs, next-laws, page-row-laws)
+left-after-requires c κs = search needs
 
 left-after-requires-2 : tie.Need-left-after-requires-2 Inv-loop μ-loop
-left-after-requires-2 c κs = search (needs, next-laws, page-row-laws)
+left-after-requires-2 c κs = search needs
 
 anchor-slot-requires : tie.Need-anchor-slot-requires Inv-loop μ-loop
 anchor-slot-requires c κs = search (needs, next-laws, page-row-laws)
 
 array-read-seen : tie.Need-array-read-seen Inv-loop μ-loop
-array-read-seen c = search (needs, next-laws, page-row-laws)
+array-read-seen c = search needs
 
 array-write-slots : tie.Need-array-write-slots Inv-loop μ-loop
-array-write-slots c = search (needs, next-laws, page-row-laws)
+array-write-slots c = search needs
 
 clean-look-requires : tie.Need-clean-look-requires Inv-loop μ-loop
 clean-look-requires c κs = search (needs, next-laws, page-row-laws)
 
 enum-told-2 : tie.Need-enum-told-2 Inv-loop μ-loop
-enum-told-2 c = search (needs, next-laws, page-row-laws)
+enum-told-2 c = search needs
 
 returns-4 : tie.Need-returns-4 Inv-loop μ-loop
 returns-4 c = never
 
 enum-told-3 : tie.Need-enum-told-3 Inv-loop μ-loop
-enum-told-3 c = search (needs, next-laws, page-row-laws)
+enum-told-3 c = search needs
 
 enum-known-kind : tie.Need-enum-known-kind Inv-loop μ-loop
-enum-known-kind c = search (needs, next-laws, page-row-laws)
+enum-known-kind c = search needs
 
 part-clean-requires : tie.Need-part-clean-requires Inv-loop μ-loop
 part-clean-requires c κs =
