@@ -1,6 +1,6 @@
 -- Where `is_sound` answers true each class from 4 on sees the same, in the shape of its needs.
 -- Assumes nothing.
-use Prim.Native.Nat.{ℕ, _-_, _≤_}
+use Prim.Native.Nat.{ℕ, _-_}
 use mathlib.Core.Bool.{Bool, true, false, not, false≢true}
 use mathlib.Core.List.{List}
 use mathlib.Core.Path.{_≡_, refl, sym, _∙_}
@@ -20,7 +20,7 @@ use Rattle.forms.specs.Sound.{Seen}
 pub never : {A : Type 0} → false ≡ true → A
 never e = absurd (false≢true e)
 
-is-no : (b : Bool) → not b ≡ true → b ≡ false
+pub is-no : (b : Bool) → not b ≡ true → b ≡ false
 is-no true e = cc
 is-no false e = refl
 

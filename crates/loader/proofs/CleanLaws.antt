@@ -1,19 +1,17 @@
 -- Where `clean_look` and `clean` find nothing, no class from 4 on does, in the shape of their needs.
 -- Assumes nothing.
 use Prim.Native.Nat.{ℕ, _+_, _-_, _≤_, _<_, _%_}
-use mathlib.Core.Bool.{Bool, true, false, cond, not, false≢true}
+use mathlib.Core.Bool.{Bool, true, false, cond, not}
 use mathlib.Core.List.{List}
 use mathlib.Core.Path.{_≡_, refl, sym, subst, ap, _∙_}
 use native.Mathlib.Omega.{arith}
-use lib.ListN.{length}
-use lib.Dec.{eqb, ltb, leb}
+use lib.Dec.{eqb, ltb}
 use borrow.Author.Tests.{lt-leb, eq-eqb, ne-eqb, eqb-true, eqb-false, ltb-true}
 use Rattle.rules.specs.declared.Head.{Head}
-use Rattle.rules.specs.declared.Head.the-variants.{Tlv, Past}
+use Rattle.rules.specs.declared.Head.the-variants.{Tlv}
 use Rattle.rules.specs.declared.Look.{Look}
 use Rattle.rules.specs.declared.Look.the-variants.{Fault, Over, Into}
-use Rattle.rules.specs.declared.Found.{Found}
-use Rattle.rules.specs.declared.Found.the-variants.{Fine, At}
+use Rattle.rules.specs.declared.Found.the-variants.{Fine}
 use Rattle.rules.specs.Tlv.{headAt}
 use Rattle.rules.specs.Tlvs.{tlvs, plain, count}
 use Rattle.rules.specs.Grammar.{cellOf, gapOf, lacks, unitKind}
@@ -30,13 +28,6 @@ use Rattle.loader.specs.Clean.{Admitted, Agreed, FreshHead, Fresh, Known
 use Rattle.loader.proofs.LookLaws.{look-into}
 use Rattle.loader.proofs.WalkLaws.{Left, w-floor, w-start, w-done}
 use Rattle.loader.proofs.Front.{Counted, counted-none, counted-here, counted-on}
-
-pub never : {A : Type 0} → false ≡ true → A
-never e = absurd (false≢true e)
-
-pub is-no : (b : Bool) → not b ≡ true → b ≡ false
-is-no true e = cc
-is-no false e = refl
 
 pub is-so : (b : Bool) → not b ≡ false → b ≡ true
 is-so true e = refl
@@ -219,9 +210,6 @@ module _ (s : List ℕ) (within anchor room from gap end left at last modifiers 
         c-over-count = count-on cell ce l ag (over-not l x)
 
       module _ (kind p : ℕ) (x : l ≡ Into kind p) where
-        pub c-in : p ≤ stop
-        c-in = agreed-in s within anchor gap 0 modifiers last cell (at + gap) t start stop l ag kind p x (head-tlv s (at + gap) end (sym is ∙ e) .1)
-
         pub c-into-count : (less : ℕ) → less ≡ cond (eqb (plain t) 0x08) (modifiers - 1) modifiers → Counted 0x08 s gap from room stop less
         c-into-count = count-on cell ce l ag (into-not l kind p x)
 
@@ -231,4 +219,4 @@ module _ (s : List ℕ) (within anchor room from gap end left at last modifiers 
             let f = re (is-so r rx) class (at + gap) c (known-below s class anchor room end stop k) in
             sym (on cell ce l ag (into-not l kind p x) class c k ∙ simp (x, f)) ∙ inv class own c k
 
-pub ruleset clean-laws = (c-floor, c-start, c-done, c-less, c-within, c-over, c-over-count, c-in, c-into, c-into-count, counted-none)
+pub ruleset clean-laws = (c-floor, c-start, c-done, c-less, c-within, c-over, c-over-count, counted-none)

@@ -1,7 +1,7 @@
 -- A TLV depends on the bytes before its end alone, and so do the counts of a row that is read further.
 -- Assumes nothing.
 use Prim.Native.Nat.{ℕ, _+_, _-_, _≤_, _<_, _%_}
-use mathlib.Core.Bool.{Bool, cond}
+use mathlib.Core.Bool.{cond}
 use mathlib.Core.List.{List}
 use mathlib.Core.Path.{_≡_, refl, sym, subst, ap, _∙_}
 use native.Mathlib.Omega.{arith}
@@ -14,7 +14,7 @@ use Rattle.rules.specs.declared.Head.{Head}
 use Rattle.rules.specs.declared.Head.the-variants.{Tlv, Past}
 use Rattle.rules.specs.Tlv.{lengthAt, headAt, headOf}
 use Rattle.rules.specs.Tlvs.{tlvs, plain, countIn, count}
-use Rattle.leaf.proofs.Cases.{both, tests}
+use Rattle.leaf.proofs.Cases.{both}
 use Rattle.tlv.proofs.Bounds.{length-got, head-tlv}
 use Rattle.tlv.proofs.Rows.{tlvs-done, tlvs-tlv}
 

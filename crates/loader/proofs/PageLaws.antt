@@ -6,16 +6,14 @@ use mathlib.Core.List.{List}
 use mathlib.Core.Path.{_≡_, refl, sym, subst, ap, _∙_}
 use native.Mathlib.Omega.{arith}
 use lib.ListN.{getD, take, drop, length-replicate}
-use lib.Dec.{eqb, leb}
-use borrow.Author.Tests.{lt-leb, eq-eqb, ne-eqb, eqb-true, eqb-false}
+use lib.Dec.{eqb}
+use borrow.Author.Tests.{lt-leb, eq-eqb, eqb-true, eqb-false}
 use Rattle.rules.specs.declared.Head.{Head}
 use Rattle.rules.specs.declared.Head.the-variants.{Tlv, Past}
 use Rattle.rules.specs.declared.Look.{Look}
 use Rattle.rules.specs.declared.Look.the-variants.{Fault, Over, Into}
-use Rattle.rules.specs.declared.Found.{Found}
-use Rattle.rules.specs.declared.Found.the-variants.{Fine, At}
 use Rattle.rules.specs.declared.Spot.{Spot}
-use Rattle.rules.specs.declared.Spot.the-variants.{After, Cut}
+use Rattle.rules.specs.declared.Spot.the-variants.{Cut}
 use Rattle.rules.specs.Bytes.{part}
 use Rattle.rules.specs.Tlv.{headAt}
 use Rattle.rules.specs.Tlvs.{tlvs, plain, count}
@@ -30,10 +28,11 @@ use Rattle.tlv.proofs.Rows.{row-done, row-tlv}
 use Rattle.page.specs.declared.Span.{Span}
 use Rattle.page.specs.Span.{spanOf}
 use Rattle.page.proofs.Spans.{span-row}
+use Rattle.forms.proofs.SoundLaws.{is-no}
 use Rattle.forms.proofs.NameLaws.{anchor-none, crowded-unit, crowded-none, crowded-page}
 use Rattle.loader.specs.Clean.{Admitted, Agreed, anchorSlot, UntakenHead, Untaken, FreshHead, Fresh, FreshIf, Known, Clean, PartClean, RowClean, PageClean}
 use Rattle.loader.proofs.WalkLaws.{w-start}
-use Rattle.loader.proofs.CleanLaws.{is-no, is-so, lack-none, over-not, into-not, agreed-in}
+use Rattle.loader.proofs.CleanLaws.{is-so, lack-none, over-not, into-not}
 use Rattle.loader.proofs.SlotLaws.{Unseen, unseen-start, unseen-here}
 use Rattle.loader.proofs.Front.{Counted, counted-none, row-counted-here, row-counted-on}
 
@@ -145,9 +144,6 @@ module _ (s : List ℕ) (from end : ℕ) where
             r-over-modifiers = modifiers-on cell ce l ag (over-not l x)
 
           module _ (kind p : ℕ) (x : l ≡ Into kind p) where
-            pub r-in : p ≤ stop
-            r-in = agreed-in s pageKind end 0 units modifiers last cell at t start stop l ag kind p x (head-tlv s at end (sym is ∙ e) .1)
-
             pub r-into-units : (less : ℕ) → less ≡ cond (eqb (plain t) 0x0A) (units - 1) units → Counted 0x0A s 0 from 64 stop less
             r-into-units = units-on cell ce l ag (into-not l kind p x)
 
@@ -162,17 +158,11 @@ module _ (s : List ℕ) (from end : ℕ) where
                 let f = re (is-so r rx) class at c (omega arith) (λ y z. unseen-here s from end at slots un go h is t start stop e slot se w y z) in
                 sym (on cell ce l ag (into-not l kind p x) class c ∙ simp (x, f)) ∙ inv w class o c
 
-pub ruleset page-row-laws = (r-start, r-done, r-less, r-within, r-over, r-over-units, r-over-modifiers, r-in, r-into, r-into-units, r-into-modifiers, counted-none, unseen-start, length-replicate)
+pub ruleset page-row-laws = (r-start, r-done, r-less, counted-none, unseen-start, length-replicate)
 
 module _ (s : List ℕ) (stop : ℕ) (b : Bool) (be : b ≡ lacks wholeKind stop (tlvs (gapOf wholeKind) s 0 stop)) (bx : b ≡ false)
     (h : Head) (is : h ≡ headAt s 0 stop) (t start end : ℕ) (e : h ≡ Tlv t start end) (y : end ≡ stop) (cell : ℕ) (ce : cell ≡ cellOf wholeKind t)
     (l : Look) (ag : (l ≡ Fault → ⊥) → Agreed s wholeKind stop 0 0 0 0 cell 0 t start stop l) (kind p : ℕ) (x : l ≡ Into kind p) where
-  pub whole-value : start ≤ stop
-  whole-value = let b = head-tlv s 0 stop (sym is ∙ e) in omega arith
-
-  pub whole-in : p ≤ stop
-  whole-in = agreed-in s wholeKind stop 0 0 0 0 cell 0 t start stop l ag kind p x whole-value
-
   admitted-whole : Admitted stop 0 0 0 0 t
   unfolding Agreed
   admitted-whole = ag (into-not l kind p x) .0
@@ -197,5 +187,3 @@ module _ (s : List ℕ) (stop : ℕ) (b : Bool) (be : b ≡ lacks wholeKind stop
         let f = rc rx whole-row class 0 c in
         sym (w-start s class wholeKind 0 0 stop 8 (λ z. omega arith) false (lack-none s class wholeKind 0 stop b be bx) refl 0 refl)
         ∙ simp (row-tlv s 0 stop (omega arith) (sym is ∙ e ∙ ap (Tlv t start) y), row-done s stop stop (omega arith), sym ce, same-whole class c, x, k, f)
-
-pub ruleset whole-laws = (whole-value, whole-in, whole-clean)

@@ -18,7 +18,8 @@ use Rattle.tlv.proofs.head_at.Reads as head-at-reads
 use Rattle.leaf.proofs.Cases.{was}
 use Rattle.tlv.proofs.Bounds.{head-tlv}
 use Rattle.loader.proofs.Front.{Counted}
-use Rattle.loader.proofs.CleanLaws.{never, agreed-in, Rest, clean-laws, c-within, c-into, c-into-count}
+use Rattle.forms.proofs.SoundLaws.{never}
+use Rattle.loader.proofs.CleanLaws.{agreed-in, Rest, clean-laws, c-within, c-into, c-into-count}
 use Rattle.loader.proofs.+clean.{statement}
 use Rattle.loader.proofs.+clean.Tie.{close}
 

@@ -2,7 +2,7 @@
 -- Assumes nothing.
 use borrow.Author.Needs.{needs}
 use Rattle.tlv.proofs.Bounds.{next-laws}
-use Rattle.loader.proofs.CleanLaws.{never}
+use Rattle.forms.proofs.SoundLaws.{never}
 use Rattle.loader.proofs.PageLaws.{fresh-laws}
 use Rattle.loader.proofs.anchor_clean.Statement.{statement}
 use Rattle.loader.proofs.anchor_clean.Tie as tie

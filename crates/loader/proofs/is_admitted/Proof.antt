@@ -1,7 +1,8 @@
 -- `is_admitted` answers true only where a TLV is admitted.
 -- Assumes nothing.
 use borrow.Author.Needs.{needs}
-use Rattle.loader.proofs.CleanLaws.{never, admitted-laws}
+use Rattle.forms.proofs.SoundLaws.{never}
+use Rattle.loader.proofs.CleanLaws.{admitted-laws}
 use Rattle.loader.proofs.is_admitted.Statement.{statement}
 use Rattle.loader.proofs.is_admitted.Tie as tie
 

@@ -4,7 +4,8 @@ use borrow.Author.Needs.{needs}
 use native.Mathlib.Omega.{arith}
 use Rattle.leaf.proofs.Cases.{was}
 use Rattle.tlv.proofs.Bounds.{head-tlv}
-use Rattle.loader.proofs.CleanLaws.{never, agreed-in}
+use Rattle.forms.proofs.SoundLaws.{never}
+use Rattle.loader.proofs.CleanLaws.{agreed-in}
 use Rattle.loader.proofs.PageLaws.{whole-clean}
 use Rattle.loader.proofs.page_clean.Statement.{statement}
 use Rattle.loader.proofs.page_clean.Tie as tie

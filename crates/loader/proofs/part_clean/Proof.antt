@@ -1,7 +1,7 @@
 -- `part_clean` answers true only where no class from 4 on finds a fault in a part of the page.
 -- Assumes nothing.
 use borrow.Author.Needs.{needs}
-use Rattle.loader.proofs.CleanLaws.{never}
+use Rattle.forms.proofs.SoundLaws.{never}
 use Rattle.loader.proofs.PageLaws.{part-laws}
 use Rattle.loader.proofs.part_clean.Statement.{statement}
 use Rattle.loader.proofs.part_clean.Tie as tie

@@ -9,7 +9,8 @@ use Rattle.rules.specs.Tlvs.{tlvs, count}
 use Rattle.tlv.proofs.Bounds.{next-laws, head-tlv}
 use Rattle.leaf.proofs.Cases.{was}
 use Rattle.loader.proofs.Front.{Counted}
-use Rattle.loader.proofs.CleanLaws.{never, agreed-in}
+use Rattle.forms.proofs.SoundLaws.{never}
+use Rattle.loader.proofs.CleanLaws.{agreed-in}
 use Rattle.loader.proofs.SlotLaws.{Unseen, unseen-on}
 use Rattle.loader.proofs.PageLaws.{Rest, page-row-laws, r-within, r-over, r-over-units, r-over-modifiers, r-into, r-into-units, r-into-modifiers}
 use Rattle.loader.proofs.row_clean.Statement.{statement}
