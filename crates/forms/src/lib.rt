@@ -2,15 +2,17 @@
 use rules::Body;
 use rules::Head;
 use rules::Pair;
-use rules::Part;
 use rules::Spot;
 ghost use mathlib.Core.Path.{_≡_};
-ghost use mathlib.Core.Bool.{false};
+ghost use mathlib.Core.Bool.{true, false};
 ghost use Prim.Native.Nat.{_≤_};
 ghost use lib.ListN.{length};
 ghost use Rattle.rules.specs.Tlvs.{tlvs, count};
 ghost use Rattle.rules.specs.Pieces.{pieces};
-ghost use Rattle.rules.specs.Page.{pageRow, partIn, holds};
+ghost use Rattle.rules.specs.Page.{pageRow};
+ghost use Rattle.rules.specs.Shape.{bodyOf};
+ghost use Rattle.rules.specs.Loader.{judgedLook};
+ghost use Rattle.forms.specs.Sound.{Seen};
 ghost use Rattle.rules.specs.Forms.{badReference, outOfPlace, takenIn, isMarked, badAnchor, sizeOf, outOfSize, longReference, bigPool, tooBig, oddHead, oddModifier, beyondAt};
 ghost use Rattle.rules.specs.Forms.{crowded as Forms·crowded, several as Forms·several, faulty as Forms·faulty};
 
@@ -63,17 +65,6 @@ fn is_marked(mark: Spot) -> bool
     true
 }
 
-// The anchor of a unit whose TLVs stand from a place up to an end is the name.
-fn is_named(s: &[u8], from: usize, end: usize, name: &[u8]) -> bool
-    requires { ⌜ end ≤ length (now s) ⌝ }
-    ensures { λ r. ⌜ r ≡ holds (now (s .entry)) (now (name .entry)) (partIn 0x0B (tlvs 0 (now (s .entry)) from end)) ⌝ }
-{
-    let Part::Held(start, stop) = page::part_in(s, 0x0B, from, end) else {
-        return false;
-    };
-    leaf::same_bytes(&s[start..stop], name)
-}
-
 // Class 5: one of the units that end by a place has the name.
 fn taken(s: &[u8], name: &[u8], place: usize) -> bool
     ensures { λ r. ⌜ r ≡ takenIn (now (s .entry)) (now (name .entry)) place (pageRow (now (s .entry))) ⌝ }
@@ -90,7 +81,7 @@ fn taken(s: &[u8], name: &[u8], place: usize) -> bool
         }
         if tag % 128 == 0x0A {
             let content = tlv::content_at(s, tag, start, stop);
-            if is_named(s, content, stop, name) {
+            if reference::part_is(s, 0x0B, content, stop, name) {
                 return true;
             }
         }
@@ -100,7 +91,7 @@ fn taken(s: &[u8], name: &[u8], place: usize) -> bool
 }
 
 // Class 5: an anchor with '23', or equal to an earlier one.
-fn bad_anchor(s: &[u8], at: usize, tag: u8, start: usize, stop: usize) -> bool
+pub fn bad_anchor(s: &[u8], at: usize, tag: u8, start: usize, stop: usize) -> bool
     requires { ⌜ stop ≤ length (now s) ⌝ }
     requires { ⌜ start ≤ stop ⌝ }
     ensures { λ r. ⌜ r ≡ badAnchor (now (s .entry)) at tag start stop ⌝ }
@@ -327,4 +318,37 @@ pub fn faulty(
         return beyond_at(s, within, tag, start, stop);
     }
     false
+}
+
+// No class from 4 on finds a fault in a TLV, but for a bad anchor or one too many.
+pub fn is_sound(
+    s: &[u8],
+    within: usize,
+    last: u8,
+    cell: u8,
+    at: usize,
+    tag: u8,
+    start: usize,
+    stop: usize,
+) -> bool
+    requires { ⌜ stop ≤ length (now s) ⌝ }
+    requires { ⌜ start ≤ stop ⌝ }
+    ensures { λ r. ⌜ (r ≡ true → Seen (now (s .entry)) within last cell at tag start stop (judgedLook (bodyOf (now (s .entry)) within tag start stop))) ⌝ }
+{
+    if out_of_place(s, last, cell, tag, start, stop) {
+        return false;
+    }
+    if beyond_at(s, within, tag, start, stop) {
+        return false;
+    }
+    if out_of_size(size_of(tag), stop - start) {
+        return false;
+    }
+    if tag == 0x0C {
+        return !long_reference(stop - start, reference::mark(&s[start..stop]));
+    }
+    if tag == 0x07 {
+        return !big_pool(s, start, stop);
+    }
+    true
 }

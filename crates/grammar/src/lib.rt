@@ -9,6 +9,8 @@ ghost use Rattle.rules.specs.Grammar.{cellOf, needOf, gapOf};
 ghost use Rattle.rules.specs.Grammar.{beyond as Grammar·beyond, misplaced as Grammar·misplaced, met as Grammar·met, lacks as Grammar·lacks};
 
 // Kinds of containers, as the rules number them.
+pub const PAGE: usize = 1;
+
 pub const UNIT: usize = 2;
 
 pub const ACTION: usize = 4;

@@ -1,8 +1,10 @@
 -- The ways through `class_fault` and `judge`, in the shape of their needs.
 -- Assumes nothing.
 use Prim.Native.Nat.{ℕ, _+_, _≤_, _<_}
+use mathlib.Core.Bool.{Bool, true}
 use mathlib.Core.List.{List, [], _∷_}
 use mathlib.Core.Path.{_≡_, refl, sym, _∙_}
+use native.Mathlib.Omega.{arith}
 use native.Mathlib.Numerals.{add-one}
 use lib.ListN.{length, getD, drop, drop-of-length-le}
 use lib.Seq.{drop-cons}
@@ -17,6 +19,7 @@ use Rattle.rules.specs.Grammar.{wholeKind}
 use Rattle.rules.specs.Page.{pageHead}
 use Rattle.rules.specs.Loader.{orThen, walk, after, classFault, classes, orRejected, judgeBy, judgeHead, judge}
 use Rattle.page.proofs.Spans.{page-stop}
+use Rattle.loader.specs.Clean.{PageClean}
 
 module _ (s : List ℕ) (class stop : ℕ) (r : Found) (e : r ≡ walk 8 s class wholeKind 0 0 stop) where
   pub class-at : (p : ℕ) → r ≡ At p → At p ≡ classFault s class stop
@@ -81,6 +84,12 @@ module _ (s : List ℕ) where
           unfolding classes judgeBy
           j-start x = sym (two-accepted (classFault s 2 stop) (classFault s 3 stop) _ (sym f ∙ x)) ∙ all
 
+          pub j-clean : j ≡ Accepted → (b : Bool) → (b ≡ true → PageClean s stop) → b ≡ true → Accepted ≡ judge s
+          unfolding PageClean classes judgeBy orRejected classFault orThen after
+          j-clean x b be bx =
+              let no : (class : ℕ) → 4 ≤ class → walk 8 s class wholeKind 0 0 stop ≡ Fine = be bx in
+              sym (simp (no 4 (omega arith), no 5 (omega arith), no 6 (omega arith), no 7 (omega arith))) ∙ j-start x
+
 module _ (s : List ℕ) (stop i : ℕ) (w : Judged) (inv : Left s stop i w) where
   pub j-accepted : length classes ≤ i → Accepted ≡ w
   unfolding judgeBy
@@ -99,4 +108,4 @@ module _ (s : List ℕ) (stop i : ℕ) (w : Judged) (inv : Left s stop i w) wher
     unfolding orRejected
     j-on x = sym (here ∙ simp x) ∙ inv
 
-pub ruleset judge-laws = (j-empty, j-long, j-past, j-within, j-structure, j-start, j-accepted, j-rejected, j-on)
+pub ruleset judge-laws = (j-empty, j-long, j-past, j-within, j-structure, j-start, j-clean, j-accepted, j-rejected, j-on)

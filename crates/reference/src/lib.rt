@@ -25,7 +25,7 @@ pub fn mark(r: &[u8]) -> Spot
 }
 
 // The first TLV with a tag holds just these bytes.
-fn part_is(s: &[u8], tag: u8, from: usize, end: usize, name: &[u8]) -> bool
+pub fn part_is(s: &[u8], tag: u8, from: usize, end: usize, name: &[u8]) -> bool
     requires { ⌜ end ≤ length (now s) ⌝ }
     ensures { λ r. ⌜ r ≡ holds (now (s .entry)) (now (name .entry)) (partIn tag (tlvs 0 (now (s .entry)) from end)) ⌝ }
 {

@@ -41,8 +41,8 @@ returns-2 c = search (needs, row-laws, taken-laws)
 content-at-requires : tie.Need-content-at-requires Inv-loop μ-loop
 content-at-requires c κs = search (needs, row-laws, taken-laws)
 
-is-named-requires : tie.Need-is-named-requires Inv-loop μ-loop
-is-named-requires c κs = search (needs, row-laws, taken-laws)
+part-is-requires : tie.Need-part-is-requires Inv-loop μ-loop
+part-is-requires c κs = search (needs, row-laws, taken-laws)
 
 returns-3 : tie.Need-returns-3 Inv-loop μ-loop
 returns-3 c = search (needs, row-laws, taken-laws)
@@ -76,7 +76,7 @@ taken-spec =
     returns
     returns-2
     content-at-requires
-    is-named-requires
+    part-is-requires
     returns-3
     loop-less
     loop-again

@@ -14,84 +14,73 @@ abbrev μ-loop : tie.MeasureT-loop
 μ-loop page n stop i₀ i = 6 - i
 
 returns : tie.Need-returns Inv-loop μ-loop
-unfolding classes
 returns c = search (needs, judge-laws)
 
 returns-2 : tie.Need-returns-2 Inv-loop μ-loop
-unfolding classes
 returns-2 c = search (needs, judge-laws)
 
 page-head-requires : tie.Need-page-head-requires Inv-loop μ-loop
-unfolding classes
-page-head-requires c κs = search (needs, judge-laws)
+page-head-requires c κs = search needs
 
 enum-known-stop : tie.Need-enum-known-stop Inv-loop μ-loop
-unfolding classes
-enum-known-stop c = search (needs, judge-laws)
+enum-known-stop c = search needs
 
 enum-told : tie.Need-enum-told Inv-loop μ-loop
-unfolding classes
-enum-told c = search (needs, judge-laws)
+enum-told c = search needs
 
 returns-3 : tie.Need-returns-3 Inv-loop μ-loop
-unfolding classes
 returns-3 c = search (needs, judge-laws)
 
 structure-requires : tie.Need-structure-requires Inv-loop μ-loop
-unfolding classes
 structure-requires c κs = search (needs, judge-laws)
 
 enum-known-class : tie.Need-enum-known-class Inv-loop μ-loop
-unfolding classes
-enum-known-class c = search (needs, judge-laws)
+enum-known-class c = search needs
 
 returns-4 : tie.Need-returns-4 Inv-loop μ-loop
-unfolding classes
 returns-4 c = search (needs, judge-laws)
 
 enum-told-2 : tie.Need-enum-told-2 Inv-loop μ-loop
-unfolding classes
-enum-told-2 c = search (needs, judge-laws)
+enum-told-2 c = search needs
+
+page-clean-requires : tie.Need-page-clean-requires Inv-loop μ-loop
+page-clean-requires c κs = search (needs, judge-laws)
+
+returns-5 : tie.Need-returns-5 Inv-loop μ-loop
+returns-5 c = search (needs, judge-laws)
 
 loop-holds : tie.Need-loop-holds Inv-loop μ-loop
-unfolding classes
 loop-holds c = search (needs, judge-laws)
 
 array-read-class : tie.Need-array-read-class Inv-loop μ-loop
-unfolding classes
-array-read-class c = search (needs, judge-laws)
+array-read-class c = search needs
 
 class-fault-requires : tie.Need-class-fault-requires Inv-loop μ-loop
-unfolding classes
 class-fault-requires c κs = search (needs, judge-laws)
 
 enum-known-p : tie.Need-enum-known-p Inv-loop μ-loop
-unfolding classes
-enum-known-p c = search (needs, judge-laws)
+enum-known-p c = search needs
 
-returns-5 : tie.Need-returns-5 Inv-loop μ-loop
+returns-6 : tie.Need-returns-6 Inv-loop μ-loop
 unfolding classes
-returns-5 c = search (needs, judge-laws)
+returns-6 c = search (needs, judge-laws)
 
 enum-told-3 : tie.Need-enum-told-3 Inv-loop μ-loop
-unfolding classes
-enum-told-3 c = search (needs, judge-laws)
+enum-told-3 c = search needs
 
 add-i : tie.Need-add-i Inv-loop μ-loop
-unfolding classes
-add-i c = search (needs, judge-laws)
+add-i c = search needs
 
 loop-less : tie.Need-loop-less Inv-loop μ-loop
-unfolding classes
 loop-less c = search (needs, judge-laws)
 
 loop-again : tie.Need-loop-again Inv-loop μ-loop
 unfolding classes
 loop-again c = search (needs, judge-laws)
 
-returns-6 : tie.Need-returns-6 Inv-loop μ-loop
+returns-7 : tie.Need-returns-7 Inv-loop μ-loop
 unfolding classes
-returns-6 c = search (needs, judge-laws)
+returns-7 c = search (needs, judge-laws)
 
 pub judge-spec : {M : Type 1} → statement M
 judge-spec =
@@ -109,13 +98,15 @@ judge-spec =
     enum-known-class
     returns-4
     enum-told-2
+    page-clean-requires
+    returns-5
     loop-holds
     array-read-class
     class-fault-requires
     enum-known-p
-    returns-5
+    returns-6
     enum-told-3
     add-i
     loop-less
     loop-again
-    returns-6)
+    returns-7)
