@@ -1,0 +1,73 @@
+-- An accepted page, in the shape of what its start needs.
+-- Assumes nothing.
+use Prim.Native.Nat.{ℕ, _-_, _≤_}
+use mathlib.Core.Bool.{Bool, true, false, cond}
+use mathlib.Core.List.{List, []}
+use mathlib.Core.Path.{_≡_, refl, sym, ap, _∙_}
+use native.Mathlib.Omega.{arith}
+use lib.ListN.{length, take, drop}
+use lib.Dec.{eqb, leb}
+use borrow.Author.Tests.{eq-eqb, le-leb}
+use Rattle.pour.specs.Pour.{blank, padded, zeros}
+use Rattle.pour.proofs.PadLaws.{length-padded, take-padded, drop-padded, zeros-blank}
+use Rattle.rules.specs.Card.{Slot, Guard, unlocked, locked, Card, withRun, withWanted, withGuard, withTemporary}
+use Rattle.rules.specs.Page.{unlock, entryOf}
+use Rattle.rules.specs.Keep.{cleared, unlocks, openedBy, started}
+use Rattle.slots.specs.Slots.{slots, tidySlots}
+use Rattle.keep.specs.Opens.{opens}
+use Rattle.word.specs.Word.{wordIn, guardOf, tidyWanted}
+use Rattle.word.proofs.Parts.{guard-blank, blank-guard, hand-blank, blank-hand, blank-wanted}
+use Rattle.leaf.proofs.Cases.{both}
+use Rattle.state.specs.declared.State.{State}
+use Rattle.state.specs.State.{Is, pageOf, tidyPage}
+
+module _ (b : Bool) (xs : List Slot) where
+  pub admit-all : b ≡ true → xs ≡ cond b xs (cleared xs)
+  admit-all e = sym (rw e refl)
+
+  pub admit-none : (ys : List Slot) → b ≡ false → ys ≡ cleared xs → ys ≡ cond b xs (cleared xs)
+  admit-none ys e f = f ∙ sym (rw e refl)
+
+pub ruleset admit-laws = (admit-all, admit-none)
+
+pub put-at : (p s d : List ℕ) → length d ≡ 4096 → p ≡ padded (length d) s → p ≡ padded 4096 s
+put-at p s d l e = e ∙ ap (λ (n : ℕ). padded n s) l
+
+opened-is : (s : List ℕ) (g : Guard) (xs : List Slot) → openedBy s g xs ≡ cond (opens s g) xs (cleared xs)
+unfolding openedBy opens
+opened-is s unlocked xs = refl
+opened-is s (locked word) xs = refl
+
+none-wanted : wordIn (blank 66) ≡ []
+unfolding wordIn
+none-wanted = refl
+
+page-padded : (s : List ℕ) → length s ≤ 4096 → tidyPage (padded 4096 s) (length s) ≡ true
+unfolding tidyPage
+page-padded s h = rw (length-padded 4096 s h, drop-padded 4096 s, zeros-blank (4096 - length s), le-leb _ _ h) refl
+
+module _ (m : State) (c : Card) (is : Is m c) where
+  pub start-is : (s page temporary guard hand wanted : List ℕ) (place : ℕ) (b : Bool) → length s ≤ 4096 → b ≡ opens s (guardOf (m .guard)) → slots temporary ≡ cond b (slots (m .temporary)) (cleared (slots (m .temporary)))
+      → (tidySlots (m .temporary) ≡ true → tidySlots temporary ≡ true) → guard ≡ blank 18 → hand ≡ blank 257 → wanted ≡ blank 66 → page ≡ padded 4096 s → place ≡ entryOf s 0
+      → Is (record { page = page; len = length s; environment = m .environment; temporary = temporary; permanent = m .permanent; trail = m .trail; guard = guard; hand = hand; wanted = wanted; unit = 0; place = place }) (started s c)
+  unfolding started withRun withWanted withGuard withTemporary pageOf
+  start-is s page temporary guard hand wanted place b l e f t g h w p q =
+      record
+          { environment = is .environment
+          ; temporary = f ∙ rw (e, is .guard, is .temporary) (sym (opened-is s (c .guard) (c .temporary)))
+          ; permanent = is .permanent
+          ; guard = rw g guard-blank
+          ; history = is .history
+          ; page = rw p (take-padded 4096 s)
+          ; unit = refl
+          ; place = q
+          ; hand = rw h hand-blank
+          ; wanted = rw w none-wanted
+          ; tidyEnvironment = is .tidyEnvironment
+          ; tidyTemporary = t (is .tidyTemporary)
+          ; tidyPermanent = is .tidyPermanent
+          ; tidyGuarded = rw g blank-guard
+          ; tidyHistory = is .tidyHistory
+          ; tidyRun = rw p (page-padded s l)
+          ; tidyHeld = rw h blank-hand
+          ; tidyWant = rw w blank-wanted }
