@@ -52,22 +52,23 @@ module _ (m : State) (c : Card) (is : Is m c) where
       → Is (record { page = page; len = length s; environment = m .environment; temporary = temporary; permanent = m .permanent; trail = m .trail; guard = guard; hand = hand; wanted = wanted; unit = 0; place = place }) (started s c)
   unfolding started withRun withWanted withGuard withTemporary pageOf
   start-is s page temporary guard hand wanted place b l e f t g h w p q =
-      record
-          { environment = is .environment
-          ; temporary = f ∙ rw (e, is .guard, is .temporary) (sym (opened-is s (c .guard) (c .temporary)))
-          ; permanent = is .permanent
-          ; guard = rw g guard-blank
-          ; history = is .history
-          ; page = rw p (take-padded 4096 s)
-          ; unit = refl
-          ; place = q
-          ; hand = rw h hand-blank
-          ; wanted = rw w none-wanted
-          ; tidyEnvironment = is .tidyEnvironment
-          ; tidyTemporary = t (is .tidyTemporary)
-          ; tidyPermanent = is .tidyPermanent
-          ; tidyGuarded = rw g blank-guard
-          ; tidyHistory = is .tidyHistory
-          ; tidyRun = rw p (page-padded s l)
-          ; tidyHeld = rw h blank-hand
-          ; tidyWant = rw w blank-wanted }
+      record {
+        environment = is .environment;
+        temporary = f ∙ rw (e, is .guard, is .temporary) (sym (opened-is s (c .guard) (c .temporary)));
+        permanent = is .permanent;
+        guard = rw g guard-blank;
+        history = is .history;
+        page = rw p (take-padded 4096 s);
+        unit = refl;
+        place = q;
+        hand = rw h hand-blank;
+        wanted = rw w none-wanted;
+        tidyEnvironment = is .tidyEnvironment;
+        tidyTemporary = t (is .tidyTemporary);
+        tidyPermanent = is .tidyPermanent;
+        tidyGuarded = rw g blank-guard;
+        tidyHistory = is .tidyHistory;
+        tidyRun = rw p (page-padded s l);
+        tidyHeld = rw h blank-hand;
+        tidyWant = rw w blank-wanted;
+      }

@@ -1,0 +1,3 @@
+pub mod ShowLaws
+pub mod ReadLaws
+pub mod CardStrings
