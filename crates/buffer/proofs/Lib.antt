@@ -1,0 +1,3 @@
+pub mod DecodeLaws
+pub mod EncodeLaws
+pub mod Codec
