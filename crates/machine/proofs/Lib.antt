@@ -1,2 +1,3 @@
 pub mod Parts
 pub mod CallLaws
+pub mod RunLaws

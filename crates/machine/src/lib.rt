@@ -3,22 +3,27 @@ use rules::Head;
 use rules::Judged;
 use rules::Loaded;
 use rules::Outcome;
+use rules::Ran;
 use rules::Refusal;
 use rules::Reply;
+use rules::Shown;
 use rules::Stepped;
 use rules::Told;
 use state::State;
 ghost use mathlib.Core.Path.{_≡_};
 ghost use mathlib.Core.Bool.{true, false, cond};
-ghost use lib.ListN.{take};
+ghost use Prim.Native.Nat.{_≤_};
+ghost use lib.ListN.{length, take};
 ghost use lib.Dec.{eqb};
 ghost use Rattle.rules.specs.declared.Outcome.the-variants.{Refused};
+ghost use Rattle.rules.specs.declared.Refusal.the-variants.{State as NoCard};
 ghost use Rattle.rules.specs.Page.{codeAt};
 ghost use Rattle.word.specs.Word.{isMarked};
 ghost use Rattle.rules.specs.Card.{created};
-ghost use Rattle.rules.specs.Calls.{setEnvironment, load, step, respond, end, told, loaded, taken, responded, referenceAfter, tagOf};
+ghost use Rattle.rules.specs.Calls.{setEnvironment, load, step, runUpTo, respond, end, readVariable, told, loaded, taken, ran, responded, shown, referenceAfter, tagOf, goesOn, steps, hidden};
 ghost use Rattle.state.specs.State.{Is, card};
 ghost use Rattle.machine.specs.Meets.{Meets};
+ghost use Rattle.machine.specs.Steps.{Ready, Counts};
 
 // A card's state, handed from call to call.
 pub struct Machine {
@@ -41,6 +46,12 @@ pub struct Begun {
 pub struct Taken {
     pub machine: Machine,
     pub stepped: Stepped,
+}
+
+// A run of up to n steps.
+pub struct Gone {
+    pub machine: Machine,
+    pub ran: Ran,
 }
 
 // A response.
@@ -91,6 +102,72 @@ fn tag_at(page: &[u8; 4096], len: usize, unit: usize, place: usize) -> u8
         return 0;
     };
     tag
+}
+
+// Any outcome but gone on ends a run.
+fn stops(outcome: Outcome) -> bool
+    ensures { λ r. ⌜ r ≡ cond (goesOn outcome) false true ⌝ }
+{
+    match outcome {
+        Outcome::On => false,
+        Outcome::Command(n) => true,
+        Outcome::Page => true,
+        Outcome::Ended => true,
+        Outcome::Refused(why) => true,
+    }
+}
+
+// Up to n steps of a page that runs; number 35 and 33 are past.
+fn take_steps(state: State, most: usize, out: &mut [u8]) -> Gone
+    requires { ⌜ Ready state × (255 ≤ length (now out)) ⌝ }
+    ensures { λ r. ⌜ Counts r (now (out .entry)) (now (out .exit)) (steps most 0 (card state)) ⌝ }
+{
+    let mut after = state;
+    let mut count: usize = 0;
+    while count < most {
+        let moved = stepping::take_step(after, out);
+        let outcome = moved.outcome;
+        after = moved.state;
+        count = count + 1;
+        if stops(outcome) {
+            return Gone {
+                machine: Machine { state: after },
+                ran: Ran { outcome, count },
+            };
+        }
+    }
+    Gone {
+        machine: Machine { state: after },
+        ran: Ran {
+            outcome: Outcome::On,
+            count,
+        },
+    }
+}
+
+// No step of a run was taken.
+fn no_run(machine: Machine, why: Refusal) -> Gone
+    ensures { λ r. ⌜ r ≡ record { machine = machine; ran = record { outcome = Refused why; count = 0 } } ⌝ }
+{
+    Gone {
+        machine,
+        ran: Ran {
+            outcome: Outcome::Refused(why),
+            count: 0,
+        },
+    }
+}
+
+// What a state that is no card shows.
+fn show_none() -> Shown
+    ensures { λ r. ⌜ r ≡ hidden NoCard ⌝ }
+{
+    Shown {
+        number: 35,
+        valuetype: 0,
+        length: 0,
+        bytes: [0; 255],
+    }
 }
 
 impl Machine {
@@ -207,6 +284,22 @@ impl Machine {
         }
     }
 
+    // Up to n steps: the count is the steps taken, a refused one too.
+    pub fn run(self, most: usize, out: &mut [u8]) -> Gone
+        ensures { λ r. ⌜ Meets (runUpTo most (now (out .entry))) self (ran (r .ran) (now (out .exit)) (referenceAfter (card (r .machine .state)) (r .ran .outcome))) (r .machine) ⌝ }
+    {
+        if out.len() < 255 {
+            return no_run(self, Refusal::Buffer);
+        }
+        if sound::is_sound(self.state) {
+            if is_ready(self.state.len, &self.state.hand) {
+                return take_steps(self.state, most, out);
+            }
+            return no_run(self, Refusal::Call);
+        }
+        no_run(self, Refusal::State)
+    }
+
     // A terminal response.
     pub fn respond(self, response: &[u8], out: &mut [u8]) -> Answered
         ensures { λ r. ⌜ Meets (respond (now (response .entry)) (now (out .entry))) self (responded (r .outcome) (now (out .exit)) (referenceAfter (card (r .machine .state)) (r .outcome))) (r .machine) ⌝ }
@@ -266,5 +359,15 @@ impl Machine {
             machine: self,
             told: Told::Undone(Refusal::State),
         }
+    }
+
+    // The host reads a variable: the Service ID is for a permanent one. Nothing changes.
+    pub fn read(self, number: u8, service: &[u8]) -> Shown
+        ensures { λ r. ⌜ Meets (readVariable number (now (service .entry))) self (shown r) self ⌝ }
+    {
+        if sound::is_sound(self.state) {
+            return reading::read(self.state, number, service);
+        }
+        show_none()
     }
 }

@@ -1,2 +1,3 @@
 pub mod Silent
 pub mod StepLaws
+pub mod GoesOn
