@@ -1,3 +1,5 @@
 pub mod Parts
 pub mod CallLaws
 pub mod RunLaws
+pub mod Unique
+pub mod Isolation
