@@ -266,10 +266,10 @@ impl Machine {
                 let unit = self.state.unit;
                 let tag = tag_at(&self.state.page, self.state.len, unit, self.state.place);
                 let moved = stepping::take_step(self.state, out);
-                let state = moved.state;
+                let next = moved.state;
                 let outcome = moved.outcome;
                 return Taken {
-                    machine: Machine { state },
+                    machine: Machine { state: next },
                     stepped: Stepped { outcome, unit, tag },
                 };
             }
