@@ -97,7 +97,7 @@ fn store_results(
     let at = tlv::content_at(page, tag, start, stop);
     let mut temporary = state.temporary;
     let mut permanent = state.permanent;
-    if results::write_results(
+    if whole::write_results(
         page,
         &mut temporary,
         &mut permanent,

@@ -59,7 +59,7 @@ fn store_all(mut state: State, start: usize, stop: usize) -> Moved
     let page = state::page_of(&copy, state.len);
     let mut temporary = state.temporary;
     let mut permanent = state.permanent;
-    if setting::set_all(
+    if whole::set_all(
         page,
         &state.environment,
         &mut temporary,
@@ -132,7 +132,7 @@ fn store_length(mut state: State, n: u8, from: usize, to: usize, stop: usize) ->
     let page = state::page_of(&copy, state.len);
     let mut temporary = state.temporary;
     let mut permanent = state.permanent;
-    if setting::set_length(
+    if whole::set_length(
         page,
         &state.environment,
         &mut temporary,

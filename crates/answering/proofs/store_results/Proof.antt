@@ -28,7 +28,7 @@ same-length c = search needs
 returns : tie.Need-returns
 returns c card is ok fine bound waits lacking =
     results-stored _ card is _ _ _ _ _ _ _ _ _ _ lacking _ (c .before .before .before .before .before .before .before .before .before .before .before .before .page-of .ensures .0) _ _ (c .before .before .before .before .before .before .before .before .before .before .before .attribute-of .ensures) (c .before .before .before .before .before .before .before .before .before .before .content-at .ensures) _ _ _ (c .before .before .before .before .before .write-results .ensures .0) (c .before .before .before .before .if1 .taken)
-    (c .before .before .before .before .before .write-results .ensures .1 .0) (c .before .before .before .before .before .write-results .ensures .1 .1) ok fine bound waits (c .before .before .follow .ensures)
+    (c .before .before .before .before .before .write-results .ensures .1 .1 .0) (c .before .before .before .before .before .write-results .ensures .1 .1 .1) ok fine bound waits (c .before .before .follow .ensures)
 
 fail-requires : tie.Need-fail-requires
 fail-requires c κs = search needs
