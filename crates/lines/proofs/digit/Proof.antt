@@ -1,0 +1,55 @@
+-- `digit` is the value of the definition.
+-- Assumes nothing.
+use borrow.Author.Needs.{needs}
+use Rattle.leaf.proofs.Cases.{cases}
+use Rattle.lines.specs.Hex.{digitOf}
+use Rattle.lines.proofs.digit.Statement.{statement}
+use Rattle.lines.proofs.digit.Tie as tie
+
+returns : tie.Need-returns
+unfolding digitOf
+returns c = search cases
+
+returns-2 : tie.Need-returns-2
+unfolding digitOf
+returns-2 c = search cases
+
+returns-3 : tie.Need-returns-3
+unfolding digitOf
+returns-3 c = search cases
+
+sub-result : tie.Need-sub-result
+sub-result c = search needs
+
+returns-4 : tie.Need-returns-4
+unfolding digitOf
+returns-4 c = search cases
+
+returns-5 : tie.Need-returns-5
+unfolding digitOf
+returns-5 c = search cases
+
+sub-result-2 : tie.Need-sub-result-2
+sub-result-2 c = search needs
+
+returns-6 : tie.Need-returns-6
+unfolding digitOf
+returns-6 c = search cases
+
+returns-7 : tie.Need-returns-7
+unfolding digitOf
+returns-7 c = search cases
+
+pub digit-spec : {M : Type 1} → statement M
+digit-spec =
+    tie.close
+    (tie.spec
+    returns
+    returns-2
+    returns-3
+    sub-result
+    returns-4
+    returns-5
+    sub-result-2
+    returns-6
+    returns-7)
