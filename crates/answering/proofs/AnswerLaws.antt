@@ -1,8 +1,8 @@
 -- The ways through a response, in the shape of what their proofs need.
 -- Assumes nothing.
-use Prim.Native.Nat.{ℕ, _+_, _-_, _≤_, _<_}
+use Prim.Native.Nat.{ℕ, _≤_}
 use mathlib.Core.Bool.{Bool, true, false, cond, true≢false, false≢true}
-use mathlib.Core.List.{List, [], _∷_}
+use mathlib.Core.List.{List}
 use mathlib.Core.Path.{_≡_, refl, sym, ap, _∙_}
 use native.Mathlib.Omega.{arith}
 use lib.ListN.{length, getD, take, drop, length-take, length-drop}
@@ -23,17 +23,17 @@ use Rattle.rules.specs.Page.{codeAt, contentAt}
 use Rattle.rules.specs.Reference.{target}
 use Rattle.rules.specs.Handler.{handle}
 use Rattle.rules.specs.Card.{Hand, empty, byCode, Card, isEmpty, inHand}
-use Rattle.rules.specs.Store.{Written, wrote, noRoom}
+use Rattle.rules.specs.Store.{wrote, noRoom}
 use Rattle.rules.specs.Keep.{rested}
 use Rattle.rules.specs.Command.{executeOf, results}
 use Rattle.rules.specs.IsCard.{historyFine}
-use Rattle.rules.specs.Step.{effect, Move, onwards, jump, away, back, send, finish, Plan, refuses, does, runsOut, storing, branchBy, branch, perform, withResults, answerBy, answerFor, applied, moved, here, answered}
+use Rattle.rules.specs.Step.{effect, Move, onwards, jump, away, back, send, finish, refuses, does, runsOut, storing, branchBy, branch, perform, withResults, answerBy, answerFor, applied, moved, here, answered}
 use Rattle.rules.specs.Calls.{bufferAfter}
 use Rattle.rules.proofs.StaysCardReference.{handle-ref}
 use Rattle.rules.proofs.StaysCardStep.{Running}
 use Rattle.rules.proofs.StaysCardWrite.{over}
 use Rattle.tlv.proofs.Bounds.{content-in}
-use Rattle.variable.specs.View.{seen, bare, view}
+use Rattle.variable.specs.View.{seen, view}
 use Rattle.slots.specs.Slots.{slots, tidySlots}
 use Rattle.records.specs.Records.{records, tidyRecords}
 use Rattle.word.specs.Word.{wordIn, isMarked, handOf}
@@ -44,7 +44,7 @@ use Rattle.moving.specs.Moved.{Comes, Bounded}
 use Rattle.storing.proofs.Lift.{lift, results-lift}
 use Rattle.storing.proofs.StoreLaws.{page-is, view-is, stored-is}
 use Rattle.sending.specs.Sent.{Sends}
-use Rattle.stepping.proofs.Silent.{Quiet, silent-quiet, perform-silent}
+use Rattle.stepping.proofs.Silent.{silent-quiet, perform-silent}
 use Rattle.stepping.proofs.StepLaws.{bounded}
 use Rattle.results.specs.Asked.{asked}
 use Rattle.answering.specs.Answering.{isRetry, isLacking, lacksIn}

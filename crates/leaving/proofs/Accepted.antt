@@ -1,16 +1,16 @@
 -- Bounds that an accepted page keeps, and the history that a unit of it leaves.
 -- Assumes nothing.
 use Prim.Native.Nat.{ℕ, _-_, _≤_}
-use mathlib.Core.Bool.{true, false, cond}
-use mathlib.Core.List.{List, [], _∷_, _++_}
-use mathlib.Core.Path.{_≡_, refl, sym, _∙_}
+use mathlib.Core.Bool.{true}
+use mathlib.Core.List.{List, _∷_}
+use mathlib.Core.Path.{_≡_, refl}
 use native.Mathlib.Omega.{arith}
 use lib.ListN.{length, length-append}
 use borrow.Author.Tests.{ne-eqb, leb-true}
 use Rattle.rules.specs.declared.Judged.the-variants.{Accepted}
 use Rattle.rules.specs.declared.Part.{Part}
 use Rattle.rules.specs.declared.Part.the-variants.{Held, Missing}
-use Rattle.rules.specs.Bytes.{part, among}
+use Rattle.rules.specs.Bytes.{among}
 use Rattle.rules.specs.Loader.{judge}
 use Rattle.rules.specs.Shape.{numberIn}
 use Rattle.rules.specs.Forms.{sizeOf, sizes}

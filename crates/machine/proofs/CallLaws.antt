@@ -1,12 +1,12 @@
 -- The host's calls, in the shape of what their proofs need.
 -- Assumes nothing.
 use Prim.Native.Nat.{ℕ, _≤_, _<_}
-use mathlib.Core.Bool.{Bool, true, false, cond, true≢false, false≢true}
-use mathlib.Core.List.{List, [], _∷_}
+use mathlib.Core.Bool.{Bool, true, false, cond, true≢false}
+use mathlib.Core.List.{List, []}
 use mathlib.Core.Path.{_≡_, refl, sym, ap, _∙_}
 use native.Mathlib.Omega.{arith}
 use lib.ListN.{length, set, take}
-use lib.Dec.{eqb, ltb, leb}
+use lib.Dec.{eqb, ltb}
 use borrow.Author.Tests.{eq-eqb, ne-eqb, lt-ltb, le-ltb, lt-leb, le-leb, eqb-true, ltb-false}
 use Rattle.leaf.proofs.Cases.{both}
 use Rattle.rules.specs.declared.Head.{Head}
@@ -17,7 +17,6 @@ use Rattle.rules.specs.declared.Loaded.the-variants.{Started, Faulty, Unloaded}
 use Rattle.rules.specs.declared.Told.the-variants.{Done, Undone}
 use Rattle.rules.specs.declared.Outcome.{Outcome}
 use Rattle.rules.specs.declared.Outcome.the-variants.{Refused}
-use Rattle.rules.specs.declared.Refusal.{Refusal}
 use Rattle.rules.specs.declared.Refusal.the-variants.{Memory, Security, Buffer, Call, Response, State as NoCard}
 use Rattle.rules.specs.declared.Reply.{Reply}
 use Rattle.rules.specs.declared.Reply.the-variants.{Result, Malformed}
@@ -25,12 +24,11 @@ use Rattle.rules.specs.declared.Stepped.{Stepped}
 use Rattle.rules.specs.Loader.{judge}
 use Rattle.rules.specs.Page.{bytesOf, password, codeAt}
 use Rattle.rules.specs.Card.{held, Card, runs, isEmpty, withEnvironment}
-use Rattle.rules.specs.Store.{longest}
 use Rattle.rules.specs.Keep.{rested, started}
 use Rattle.rules.specs.IsCard.{isCard}
 use Rattle.rules.specs.Command.{reply}
-use Rattle.rules.specs.Step.{Effect, here, stepped, answered}
-use Rattle.rules.specs.Calls.{Asked, setEnvironment, load, step, respond, end, Answer, told, loaded, taken, responded, Did, did, bufferLength, bufferAfter, referenceAfter, tagOf, ready, waiting, admitted, lends, loadBy, loadRefused, stepDone, stepRefused, respondDone, respondRefused, respondBy, toldRefused, environmentDone, act}
+use Rattle.rules.specs.Step.{here, stepped, answered}
+use Rattle.rules.specs.Calls.{Asked, setEnvironment, load, step, respond, end, Answer, told, loaded, taken, responded, Did, did, referenceAfter, tagOf, ready, waiting, admitted, lends, loadBy, loadRefused, stepDone, stepRefused, respondDone, respondRefused, respondBy, toldRefused, environmentDone, act}
 use Rattle.rules.proofs.StaysCardStep.{Running}
 use Rattle.leaving.proofs.Accepted.{accepted-password}
 use Rattle.slots.specs.Slots.{slots, tidySlots}
@@ -39,7 +37,6 @@ use Rattle.state.specs.declared.State.{State}
 use Rattle.state.specs.State.{Is, card, cardOf, pageOf}
 use Rattle.state.proofs.Canonical.{is-card}
 use Rattle.moving.specs.declared.Moved.{Moved}
-use Rattle.moving.specs.Moved.{Comes}
 use Rattle.sending.specs.Sent.{Sends}
 use Rattle.machine.specs.declared.Machine.{Machine}
 use Rattle.machine.specs.Meets.{Meets}

@@ -2,17 +2,16 @@
 -- Assumes nothing.
 use Prim.Native.Nat.{ℕ}
 use mathlib.Core.Bool.{true}
-use mathlib.Core.List.{List, [], _∷_}
+use mathlib.Core.List.{List, _∷_}
 use mathlib.Core.Path.{_≡_, refl, sym, ap, _∙_}
 use Rattle.rules.specs.IsCard.{isCard}
 use Rattle.rules.specs.Calls.{Asked, Answer, act, answers, afterAll}
-use Rattle.rules.specs.Hidden.{recordsOf, Alike, Unasked, Isolated}
+use Rattle.rules.specs.Hidden.{Alike, Unasked}
 use Rattle.rules.proofs.StaysCard.{stays-card}
 use Rattle.rules.proofs.Isolation.{isolation}
 use Rattle.state.specs.State.{cardOf}
 use Rattle.state.proofs.Canonical.{is-card-of}
 use Rattle.machine.specs.declared.Machine.{Machine}
-use Rattle.machine.specs.Meets.{Meets}
 use Rattle.machine.specs.Calls.{Through, done, next, Apart}
 
 -- the calls on a machine that is a card are the definitions' calls on its card

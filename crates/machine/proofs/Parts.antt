@@ -1,17 +1,17 @@
 -- What the parts of a sound state tell of its card.
 -- Assumes nothing.
-use Prim.Native.Nat.{ℕ, _≤_, _<_}
-use mathlib.Core.Bool.{Bool, true, false, cond, true≢false, false≢true}
+use Prim.Native.Nat.{ℕ, _≤_}
+use mathlib.Core.Bool.{Bool, true, false, cond, false≢true}
 use mathlib.Core.List.{List, [], _∷_}
-use mathlib.Core.Path.{_≡_, refl, sym, ap, _∙_}
+use mathlib.Core.Path.{_≡_, refl, sym, _∙_}
 use native.Mathlib.Omega.{arith}
 use lib.ListN.{length, take, length-take}
 use lib.Dec.{eqb, leb}
 use borrow.Author.Tests.{eq-eqb, ne-eqb, eqb-true, eqb-false, leb-true}
 use Rattle.pour.proofs.StrideLaws.{all-first, all-rest}
 use Rattle.rules.specs.Page.{service}
-use Rattle.rules.specs.Card.{Hand, empty, byCode, Card, runs, isEmpty}
-use Rattle.rules.specs.IsCard.{isCard, handFine}
+use Rattle.rules.specs.Card.{Card, runs, isEmpty}
+use Rattle.rules.specs.IsCard.{isCard}
 use Rattle.rules.specs.Calls.{ready, waiting}
 use Rattle.rules.proofs.StaysCardStep.{Running, card-running}
 use Rattle.leaving.proofs.Accepted.{accepted-service}

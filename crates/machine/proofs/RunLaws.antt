@@ -3,12 +3,11 @@
 use Prim.Native.Nat.{ℕ, zero, suc, _+_, _-_, _≤_, _<_}
 use mathlib.Core.Bool.{Bool, true, false, cond, true≢false, false≢true}
 use mathlib.Core.List.{List, [], _∷_}
-use mathlib.Core.Path.{_≡_, refl, sym, ap, subst, _∙_}
+use mathlib.Core.Path.{_≡_, refl, sym, ap, _∙_}
 use native.Mathlib.Omega.{arith}
 use lib.ListN.{length, replicate, take}
 use lib.Dec.{eqb}
 use borrow.Author.Tests.{lt-leb, le-leb}
-use Rattle.leaf.proofs.Cases.{both}
 use Rattle.rules.specs.declared.Outcome.{Outcome}
 use Rattle.rules.specs.declared.Outcome.the-variants.{On, Command, Page, Ended, Refused}
 use Rattle.rules.specs.declared.Refusal.{Refusal}
@@ -18,21 +17,20 @@ use Rattle.rules.specs.declared.Judged.the-variants.{Accepted}
 use Rattle.rules.specs.Numbers.{number}
 use Rattle.rules.specs.Loader.{judge}
 use Rattle.rules.specs.Page.{service}
-use Rattle.rules.specs.Card.{Card, isEmpty}
-use Rattle.rules.specs.Store.{area, longest}
-use Rattle.rules.specs.IsCard.{isCard, handFine}
-use Rattle.rules.specs.Step.{Effect, effect, stepped}
-use Rattle.rules.specs.Calls.{Asked, runUpTo, readVariable, Answer, ran, shown, Did, did, bufferAfter, referenceAfter, ready, admitted, lends, Counted, goesOn, steps, runDone, runRefused, seen, hidden, display, readDone, act}
-use Rattle.rules.proofs.StaysCardStep.{Running, card-running, stepped-card, running-card, empty-page}
+use Rattle.rules.specs.Card.{Card}
+use Rattle.rules.specs.Store.{area}
+use Rattle.rules.specs.IsCard.{isCard}
+use Rattle.rules.specs.Step.{effect, stepped}
+use Rattle.rules.specs.Calls.{runUpTo, readVariable, ran, shown, bufferAfter, referenceAfter, ready, admitted, lends, Counted, goesOn, steps, runDone, runRefused, seen, hidden, display, readDone, act}
+use Rattle.rules.proofs.StaysCardStep.{Running, card-running, stepped-card, empty-page}
 use Rattle.leaving.proofs.Accepted.{accepted-service}
 use Rattle.word.specs.Word.{isMarked}
 use Rattle.reading.specs.Strings.{ShortStrings}
 use Rattle.reading.proofs.CardStrings.{card-strings}
 use Rattle.state.specs.declared.State.{State}
 use Rattle.state.specs.State.{Is, card, cardOf, runOf, pageOf}
-use Rattle.state.proofs.Canonical.{is-card, is-card-of}
+use Rattle.state.proofs.Canonical.{is-card}
 use Rattle.moving.specs.declared.Moved.{Moved}
-use Rattle.moving.specs.Moved.{Comes}
 use Rattle.sending.specs.Sent.{Sends}
 use Rattle.stepping.proofs.GoesOn.{stepped-on}
 use Rattle.machine.specs.declared.Machine.{Machine}

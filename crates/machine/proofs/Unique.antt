@@ -1,6 +1,5 @@
 -- A contract settles the answer and the machine: two outcomes that meet it are the same.
 -- Assumes nothing.
-use mathlib.Core.Bool.{true, false}
 use mathlib.Core.Path.{_≡_, sym, ap, _∙_}
 use Rattle.rules.specs.IsCard.{isCard}
 use Rattle.rules.specs.Calls.{Asked, Answer, act}

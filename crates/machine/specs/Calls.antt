@@ -2,7 +2,7 @@
 use mathlib.Core.Path.{_≡_}
 use mathlib.Core.List.{List, [], _∷_}
 use Prim.Native.Nat.{ℕ}
-use Rattle.rules.specs.Calls.{Asked, Answer, answers, afterAll}
+use Rattle.rules.specs.Calls.{Asked, Answer, answers}
 use Rattle.rules.specs.Hidden.{recordsOf}
 use Rattle.state.specs.State.{cardOf}
 use Rattle.machine.specs.declared.Machine.{Machine}

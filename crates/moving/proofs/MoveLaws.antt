@@ -10,7 +10,6 @@ use lib.Dec.{eqb}
 use borrow.Author.Tests.{eq-eqb, ne-eqb}
 use Rattle.pour.specs.Pour.{blank}
 use Rattle.rules.specs.declared.Judged.the-variants.{Accepted}
-use Rattle.rules.specs.declared.Outcome.{Outcome}
 use Rattle.rules.specs.declared.Outcome.the-variants.{On, Page, Ended, Refused}
 use Rattle.rules.specs.declared.Refusal.{Refusal}
 use Rattle.rules.specs.declared.Refusal.the-variants.{Syntax, Variable, Anchor, Memory, Security, Disallowed, Buffer, Call, Response, State as StateRefused}
@@ -27,7 +26,7 @@ use Rattle.rules.specs.Card.{Slot, held, Card, withEnvironment, withHistory, wi
 use Rattle.rules.specs.Keep.{rested}
 use Rattle.rules.specs.Trail.{left, last, lowered}
 use Rattle.rules.specs.IsCard.{historyFine}
-use Rattle.rules.specs.Step.{Effect, effect, Move, marked, placed, entered, leaving, wanting, backTo, goBack, moved, onwards, jump, away, back, finish, failed, refuses, does, applied, branch, branchBy, perform}
+use Rattle.rules.specs.Step.{effect, marked, placed, entered, leaving, wanting, backTo, goBack, moved, onwards, jump, away, back, finish, failed, refuses, applied, branch, branchBy, perform}
 use Rattle.rules.proofs.StaysCardHistory.{history-fit, last-wanted, bounds}
 use Rattle.slots.specs.Slots.{slots, tidySlots}
 use Rattle.trail.specs.Trail.{historyOf, tidyTrail}

@@ -1,9 +1,9 @@
 -- The ways through an Execute USAT Command, in the shape of what their proofs need.
 -- Assumes nothing.
-use Prim.Native.Nat.{ℕ, _+_, _-_, _≤_, _<_}
+use Prim.Native.Nat.{ℕ, _-_, _≤_, _<_}
 use mathlib.Core.Bool.{Bool, true, false, cond}
-use mathlib.Core.List.{List, [], _∷_}
-use mathlib.Core.Path.{_≡_, refl, sym, ap, _∙_}
+use mathlib.Core.List.{List}
+use mathlib.Core.Path.{_≡_, refl, sym, _∙_}
 use native.Mathlib.Omega.{arith}
 use lib.ListN.{length, getD, take, drop, length-take}
 use lib.Seq.{take-append-seam}
@@ -14,7 +14,7 @@ use Rattle.pour.proofs.PourLaws.{length-poured}
 use Rattle.leaf.proofs.Cases.{both}
 use Rattle.rules.specs.Store.{longest}
 use Rattle.rules.specs.declared.Judged.the-variants.{Accepted}
-use Rattle.rules.specs.declared.Outcome.the-variants.{On, Command, Page, Ended, Refused}
+use Rattle.rules.specs.declared.Outcome.the-variants.{Command}
 use Rattle.rules.specs.declared.Complaint.{Complaint}
 use Rattle.rules.specs.declared.Refusal.{Refusal}
 use Rattle.rules.specs.declared.Refusal.the-variants.{Memory, Disallowed}
@@ -23,10 +23,10 @@ use Rattle.rules.specs.Loader.{judge}
 use Rattle.rules.specs.Card.{free, Card, withRun, inHand}
 use Rattle.rules.specs.IsCard.{complaintFree}
 use Rattle.rules.specs.Command.{executeOf, typeAt, executeComplaint, allowedBy, allowed, command}
-use Rattle.rules.specs.Step.{Plan, refuses, does, applied, moved, send, sending, execute}
+use Rattle.rules.specs.Step.{refuses, does, applied, moved, send, sending, execute}
 use Rattle.rules.specs.Calls.{over, bufferAfter}
 use Rattle.slots.specs.Slots.{slots}
-use Rattle.variable.specs.View.{bare, view}
+use Rattle.variable.specs.View.{view}
 use Rattle.value.specs.Into.{into}
 use Rattle.execute.proofs.Bare.{bare-execute}
 use Rattle.command.proofs.Bare.{bare-command}

@@ -4,20 +4,17 @@ use Prim.Native.Nat.{ℕ, _-_, _≤_}
 use mathlib.Core.Bool.{Bool, true, false, cond}
 use mathlib.Core.List.{List, []}
 use mathlib.Core.Path.{_≡_, refl, sym, ap, _∙_}
-use native.Mathlib.Omega.{arith}
-use lib.ListN.{length, take, drop}
-use lib.Dec.{eqb, leb}
-use borrow.Author.Tests.{eq-eqb, le-leb}
-use Rattle.pour.specs.Pour.{blank, padded, zeros}
+use lib.ListN.{length}
+use borrow.Author.Tests.{le-leb}
+use Rattle.pour.specs.Pour.{blank, padded}
 use Rattle.pour.proofs.PadLaws.{length-padded, take-padded, drop-padded, zeros-blank}
 use Rattle.rules.specs.Card.{Slot, Guard, unlocked, locked, Card, withRun, withWanted, withGuard, withTemporary}
-use Rattle.rules.specs.Page.{unlock, entryOf}
-use Rattle.rules.specs.Keep.{cleared, unlocks, openedBy, started}
+use Rattle.rules.specs.Page.{entryOf}
+use Rattle.rules.specs.Keep.{cleared, openedBy, started}
 use Rattle.slots.specs.Slots.{slots, tidySlots}
 use Rattle.keep.specs.Opens.{opens}
-use Rattle.word.specs.Word.{wordIn, guardOf, tidyWanted}
+use Rattle.word.specs.Word.{wordIn, guardOf}
 use Rattle.word.proofs.Parts.{guard-blank, blank-guard, hand-blank, blank-hand, blank-wanted}
-use Rattle.leaf.proofs.Cases.{both}
 use Rattle.state.specs.declared.State.{State}
 use Rattle.state.specs.State.{Is, pageOf, tidyPage}
 

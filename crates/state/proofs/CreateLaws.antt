@@ -1,16 +1,12 @@
 -- A created state, in the shape of what its proof needs.
 -- Assumes nothing.
-use Prim.Native.Nat.{ℕ}
-use mathlib.Core.Bool.{true}
-use mathlib.Core.List.{List, []}
-use mathlib.Core.Path.{_≡_, refl}
+use mathlib.Core.Path.{refl}
 use Rattle.pour.specs.Pour.{blank}
 use Rattle.rules.specs.Card.{created, atRest}
 use Rattle.slots.proofs.KeepLaws.{slots-blank, tidy-blank}
 use Rattle.records.proofs.WriteLaws.{records-blank, tidy-blank as tidy-records}
 use Rattle.trail.proofs.TrailLaws.{history-blank, tidy-blank as tidy-trail}
 use Rattle.word.specs.Word.{wordIn}
-use Rattle.state.specs.declared.State.{State}
 use Rattle.state.specs.State.{pageOf, Is}
 use Rattle.word.proofs.Parts.{guard-blank, hand-blank, blank-guard, blank-hand, blank-wanted}
 use Rattle.state.proofs.Parts.{blank-page}

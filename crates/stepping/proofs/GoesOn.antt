@@ -1,9 +1,9 @@
 -- A step that goes on leaves the page running, with no command in hand.
 -- Assumes nothing.
 use Prim.Native.Nat.{ℕ, _%_}
-use mathlib.Core.Bool.{true, false, cond, false≢true}
+use mathlib.Core.Bool.{true, false≢true}
 use mathlib.Core.List.{List}
-use mathlib.Core.Path.{_≡_, refl, sym, ap, _∙_}
+use mathlib.Core.Path.{_≡_, refl, _∙_}
 use lib.ListN.{length}
 use lib.Dec.{ltb, eqb}
 use Rattle.rules.specs.declared.Head.{Head}
@@ -21,7 +21,7 @@ use Rattle.rules.specs.Tlvs.{Tlvs, tlvs}
 use Rattle.rules.specs.Shape.{attribute}
 use Rattle.rules.specs.Reference.{target}
 use Rattle.rules.specs.Card.{Slot, free, held, Card, isEmpty, withEnvironment, withHistory, withRun}
-use Rattle.rules.specs.Store.{Written, wrote, noRoom, write}
+use Rattle.rules.specs.Store.{Written, wrote, noRoom}
 use Rattle.rules.specs.Command.{Execute, executeOf, allowed, command}
 use Rattle.rules.specs.Step.{Effect, Move, onwards, jump, away, back, send, finish, Plan, refuses, does, runsOut, unless, storing, branchBy, branch, perform, setAll, setVariable, getLength, choose, chosen, branchOnSlot, branchOnValue, exit, execute, ByteCode, settingVariables, goingBack, branching, exiting, executing, gettingLength, unknown, byteCode, planBy, planFor, here, decide, wanting, backTo, goBack, moved, applied, marked, placed, entered, leaving, stepped}
 use Rattle.rules.specs.Calls.{goesOn}

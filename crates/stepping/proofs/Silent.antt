@@ -1,7 +1,6 @@
 -- A byte code that sends no command leaves the lent buffer as it was.
 -- Assumes nothing.
 use Prim.Native.Nat.{ℕ, _%_}
-use mathlib.Core.Bool.{cond}
 use mathlib.Core.List.{List}
 use mathlib.Core.Path.{_≡_, refl}
 use lib.Dec.{eqb}
@@ -11,8 +10,6 @@ use Rattle.rules.specs.declared.Choice.{Choice}
 use Rattle.rules.specs.declared.Choice.the-variants.{Follow, Stay, Unknown}
 use Rattle.rules.specs.declared.Complaint.{Complaint}
 use Rattle.rules.specs.declared.Complaint.the-variants.{Nothing, Undefined, Secured, Misused}
-use Rattle.rules.specs.declared.Outcome.the-variants.{On, Page, Ended, Refused}
-use Rattle.rules.specs.declared.Refusal.the-variants.{Syntax, Variable, Anchor, Memory, Security}
 use Rattle.rules.specs.declared.Target.{Target}
 use Rattle.rules.specs.declared.Target.the-variants.{Unit as UnitAt, Lacking, Other}
 use Rattle.rules.specs.Bytes.{part}
@@ -20,9 +17,8 @@ use Rattle.rules.specs.Shape.{attribute}
 use Rattle.rules.specs.Tlvs.{Tlvs}
 use Rattle.rules.specs.Card.{Slot, free, held, Card}
 use Rattle.rules.specs.Store.{Written, wrote, noRoom}
-use Rattle.rules.specs.Keep.{rested}
 use Rattle.rules.specs.Reference.{target}
-use Rattle.rules.specs.Step.{Effect, effect, Move, onwards, jump, away, back, send, finish, Plan, refuses, does, runsOut, unless, storing, branchBy, branch, perform, setVariable, getLength, choose, chosen, branchOnSlot, branchOnValue, exit, wanting, backTo, goBack, moved, applied, marked}
+use Rattle.rules.specs.Step.{Effect, Move, onwards, jump, away, back, send, finish, Plan, refuses, does, runsOut, unless, storing, branchBy, branch, perform, setVariable, getLength, choose, chosen, branchOnSlot, branchOnValue, exit, wanting, backTo, goBack, moved, applied}
 use Rattle.rules.specs.Calls.{bufferAfter}
 use Rattle.leaf.proofs.Cases.{both}
 

@@ -1,13 +1,12 @@
 -- The ways through a step, in the shape of what their proofs need.
 -- Assumes nothing.
-use Prim.Native.Nat.{ℕ, _+_, _≤_, _<_, _%_}
-use mathlib.Core.Bool.{Bool, true, false, cond}
-use mathlib.Core.List.{List, [], _∷_}
-use mathlib.Core.Path.{_≡_, refl, sym, ap, subst, _∙_}
-use native.Mathlib.Omega.{arith}
+use Prim.Native.Nat.{ℕ, _+_, _≤_, _%_}
+use mathlib.Core.Bool.{true, false}
+use mathlib.Core.List.{List}
+use mathlib.Core.Path.{_≡_, sym, ap, _∙_}
 use lib.ListN.{length, getD, take}
 use lib.Dec.{eqb}
-use borrow.Author.Tests.{eq-eqb, ne-eqb, eqb-true}
+use borrow.Author.Tests.{eq-eqb, ne-eqb}
 use Rattle.rules.specs.declared.Head.{Head}
 use Rattle.rules.specs.declared.Head.the-variants.{Tlv, Past}
 use Rattle.rules.specs.declared.Judged.the-variants.{Accepted}
@@ -31,9 +30,9 @@ use Rattle.rules.specs.Store.{area, unserved, read, worse}
 use Rattle.rules.specs.Keep.{rested}
 use Rattle.rules.specs.Command.{executeOf}
 use Rattle.rules.specs.IsCard.{historyFine}
-use Rattle.rules.specs.Step.{effect, Plan, refuses, does, runsOut, applied, moved, onwards, back, finish, branch, perform, choose, casesComplaint, branchOnValue, exit, execute, setVariable, getLength, byteCode, settingVariables, goingBack, branching, exiting, executing, gettingLength, unknown, planBy, planFor, here, decide, stepped}
+use Rattle.rules.specs.Step.{effect, refuses, does, runsOut, applied, moved, onwards, back, finish, branch, perform, choose, casesComplaint, branchOnValue, exit, execute, setVariable, getLength, byteCode, settingVariables, planBy, planFor, here, decide, stepped}
 use Rattle.rules.proofs.StaysCardHistory.{bounds}
-use Rattle.rules.proofs.StaysCardReference.{Ref, GoRef, ChoiceRef, handle-ref, branch-ref}
+use Rattle.rules.proofs.StaysCardReference.{GoRef, ChoiceRef, handle-ref, branch-ref}
 use Rattle.rules.proofs.StaysCardPage.{page-fine}
 use Rattle.rules.proofs.StaysCardStep.{Running}
 use Rattle.variable.specs.View.{seen, bare, view}
@@ -48,7 +47,7 @@ use Rattle.moving.specs.declared.Moved.{Moved}
 use Rattle.moving.specs.Moved.{Comes, Bounded}
 use Rattle.storing.proofs.StoreLaws.{page-is, view-is}
 use Rattle.sending.specs.Sent.{Sends}
-use Rattle.stepping.proofs.Silent.{Quiet, silent-quiet, set-silent, length-silent, value-silent, exit-silent}
+use Rattle.stepping.proofs.Silent.{silent-quiet, set-silent, length-silent, value-silent, exit-silent}
 
 -- the reference that a branch follows has at most 65 bytes
 abbrev Short : List ℕ → Branch → Type 0

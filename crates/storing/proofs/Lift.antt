@@ -1,14 +1,13 @@
 -- What is written to the part that a card shows is written to the card, and nothing else of it changes.
 -- Assumes nothing.
 use Prim.Native.Nat.{ℕ, _-_}
-use mathlib.Core.Bool.{true, false, cond}
+use mathlib.Core.Bool.{cond}
 use mathlib.Core.List.{List, [], _∷_}
-use mathlib.Core.Path.{_≡_, refl, sym, ap, subst, _∙_}
-use lib.ListN.{length, getD, set}
+use mathlib.Core.Path.{_≡_, refl, sym, ap, _∙_}
+use lib.ListN.{length, set}
 use lib.Dec.{ltb}
 use Rattle.rules.specs.declared.Head.{Head}
 use Rattle.rules.specs.Tlvs.{Tlvs, done, past, tlv}
-use Rattle.rules.specs.Pieces.{Pieces}
 use Rattle.rules.specs.Page.{service}
 use Rattle.rules.specs.Card.{Slot, free, held, Record, stored, Card, withTemporary, withPermanent}
 use Rattle.rules.specs.Store.{Area, environmental, permanently, temporarily, string, area, placeFor, room, recordRoom, longest, roomLimit, Written, wrote, noRoom, writeTemporary, writePermanent, writeIn, write}

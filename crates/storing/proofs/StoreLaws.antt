@@ -3,7 +3,7 @@
 use Prim.Native.Nat.{ℕ, _+_, _≤_, _<_}
 use mathlib.Core.Bool.{Bool, true, false, cond, true≢false, false≢true}
 use mathlib.Core.List.{List, [], _∷_}
-use mathlib.Core.Path.{_≡_, refl, sym, ap, _∙_}
+use mathlib.Core.Path.{_≡_, refl, sym, _∙_}
 use native.Mathlib.Omega.{arith}
 use lib.ListN.{length, getD, take}
 use Rattle.rules.specs.declared.Head.{Head}
@@ -16,14 +16,14 @@ use Rattle.rules.specs.declared.Refusal.the-variants.{Syntax, Variable, Memory,
 use Rattle.rules.specs.Bytes.{part}
 use Rattle.rules.specs.Tlv.{headAt}
 use Rattle.rules.specs.Tlvs.{Tlvs, done, past, tlv, tlvs}
-use Rattle.rules.specs.Pieces.{Pieces, full, named}
+use Rattle.rules.specs.Pieces.{named}
 use Rattle.rules.specs.Loader.{judge}
 use Rattle.rules.specs.Page.{service}
-use Rattle.rules.specs.Card.{Slot, Card}
+use Rattle.rules.specs.Card.{Card}
 use Rattle.rules.specs.IsCard.{complaintFree}
 use Rattle.rules.specs.Store.{area, writing, writingIn, worse, Written, wrote, noRoom, write}
 use Rattle.rules.specs.Value.{piecesOf, complaint, joined, shortest}
-use Rattle.rules.specs.Step.{Plan, refuses, does, applied, moved, Move, onwards, unless, storing, numberBefore, settingComplaint, setAll, setVariable, listAt, getLength}
+use Rattle.rules.specs.Step.{Plan, refuses, applied, moved, Move, onwards, unless, storing, numberBefore, settingComplaint, setAll, setVariable, listAt, getLength}
 use Rattle.rules.proofs.IsolationRows.{tlv-in}
 use Rattle.rules.proofs.StaysCardWrite.{over}
 use Rattle.slots.specs.Slots.{slots, tidySlots}
