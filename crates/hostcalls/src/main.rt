@@ -10,34 +10,14 @@ use rules::Loaded;
 use rules::Outcome;
 use rules::Refusal;
 use rules::Told;
-ghost use mathlib.Core.Path.{_≡_};
-ghost use Prim.Native.Nat.{_+_, _≤_};
+ghost use Prim.Native.Nat.{_≤_};
 ghost use lib.ListN.{length};
 ghost use Rattle.io.specs.Counts.{Counts};
-ghost use Rattle.rules.specs.Numbers.{number as Numbers·number};
 
 // The machine, and how many bytes of a line are held: 65,537 for one that is too long.
 struct Host {
     machine: Machine,
     held: usize,
-}
-
-// The number of a refusal.
-fn number(why: Refusal) -> u8
-    ensures { λ r. ⌜ r ≡ Numbers·number why ⌝ }
-{
-    match why {
-        Refusal::Syntax => 16,
-        Refusal::Variable => 17,
-        Refusal::Anchor => 17,
-        Refusal::Memory => 18,
-        Refusal::Security => 19,
-        Refusal::Disallowed => 22,
-        Refusal::Buffer => 32,
-        Refusal::Call => 33,
-        Refusal::Response => 34,
-        Refusal::State => 35,
-    }
 }
 
 fn say(text: &[u8]) {
@@ -65,7 +45,7 @@ fn say_bytes(bytes: &[u8])
 }
 
 fn say_refusal(why: Refusal) {
-    say_number(leaf::wide(number(why)));
+    say_number(leaf::wide(lines::refusal_number(why)));
 }
 
 // The line is no call.
@@ -157,7 +137,7 @@ fn took_step(outcome: Outcome) -> bool {
         Outcome::Command(n) => true,
         Outcome::Page => true,
         Outcome::Ended => true,
-        Outcome::Refused(why) => number(why) < 32,
+        Outcome::Refused(why) => lines::refusal_number(why) < 32,
     }
 }
 

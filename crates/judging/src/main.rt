@@ -3,76 +3,11 @@
 use libc::STDIN_FILENO;
 use libc::STDOUT_FILENO;
 use rules::Judged;
-ghost use mathlib.Core.Path.{_≡_};
-ghost use Prim.Native.Nat.{_≤_, _/_};
-ghost use lib.ListN.{length};
-ghost use Rattle.io.specs.Counts.{Counts};
-ghost use Rattle.judging.specs.Hex.{digitOf, isHex, unhexed};
 
 // What a turn leaves of a line that goes on, or that the input ended.
 enum Turn {
     More(usize),
     Over,
-}
-
-// The value of a hex digit, 16 where it is none.
-fn digit(b: u8) -> u8
-    ensures { λ r. ⌜ r ≡ digitOf b ⌝ }
-{
-    if b < 48 {
-        return 16;
-    }
-    if b < 58 {
-        return b - 48;
-    }
-    if b < 65 {
-        return 16;
-    }
-    if b < 71 {
-        return b - 55;
-    }
-    if b < 97 {
-        return 16;
-    }
-    if b < 103 {
-        return b - 87;
-    }
-    16
-}
-
-// A line is pairs of hex digits.
-fn is_hex(line: &[u8]) -> bool
-    ensures { λ r. ⌜ r ≡ isHex (now (line .entry)) ⌝ }
-{
-    if line.len() % 2 == 1 {
-        return false;
-    }
-    let mut i = 0;
-    while i < line.len() {
-        if digit(line[i]) == 16 {
-            return false;
-        }
-        i += 1;
-    }
-    true
-}
-
-// The bytes of a line's pairs of digits, to the start of `out`, and their count.
-fn unhex(line: &[u8], out: &mut [u8]) -> usize
-    requires { ⌜ length (now line) / 2 ≤ length (now out) ⌝ }
-    ensures { λ r. ⌜ r ≡ length (now (line .entry)) / 2 ⌝ }
-    ensures { λ _. ⌜ now (out .exit) ≡ unhexed (now (line .entry)) (now (out .entry)) ⌝ }
-    ensures { λ r. ⌜ Counts r (now (out .exit)) ⌝ }
-{
-    let n = line.len() / 2;
-    let mut i = 0;
-    while i < n {
-        let high = digit(line[2 * i]);
-        let low = digit(line[2 * i + 1]);
-        out[i] = high % 16 * 16 + low % 16;
-        i += 1;
-    }
-    n
 }
 
 fn show(j: Judged) {
@@ -92,13 +27,7 @@ fn show(j: Judged) {
 
 // Judges the page of a line. One that is too long for a page is judged by its length alone.
 fn answer(line: &[u8]) {
-    if line.len() == 1 {
-        if line[0] == b'-' {
-            show(loader::judge(&[]));
-            return;
-        }
-    }
-    if !is_hex(line) {
+    if !lines::is_bytes(line) {
         io::write_all(STDOUT_FILENO, b"?\n");
         return;
     }
@@ -107,7 +36,7 @@ fn answer(line: &[u8]) {
         show(Judged::Rejected(1, 0));
         return;
     }
-    let n = unhex(line, &mut page);
+    let n = lines::unhex(line, &mut page);
     show(loader::judge(&page[..n]));
 }
 

@@ -1,9 +1,9 @@
--- `number` is the number of the table.
+-- `refusal_number` is the number of the table.
 -- Assumes nothing.
-use Rattle.hostcalls.proofs.CallLaws.{number-laws}
+use Rattle.lines.proofs.NumberLaws.{number-laws}
 use borrow.Author.Needs.{needs}
-use Rattle.hostcalls.proofs.number.Statement.{statement}
-use Rattle.hostcalls.proofs.number.Tie as tie
+use Rattle.lines.proofs.refusal_number.Statement.{statement}
+use Rattle.lines.proofs.refusal_number.Tie as tie
 
 enum-told : tie.Need-enum-told
 enum-told c = search needs
@@ -65,8 +65,8 @@ returns-9 c = search (needs, number-laws)
 returns-10 : tie.Need-returns-10
 returns-10 c = search (needs, number-laws)
 
-pub number-spec : {M : Type 1} → statement M
-number-spec =
+pub refusal-number-spec : {M : Type 1} → statement M
+refusal-number-spec =
     tie.close
     (tie.spec
     enum-told
