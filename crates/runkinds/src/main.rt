@@ -1,0 +1,4 @@
+// The program `runpage` on records of which one is of no kind.
+fn main() {
+    playing::serve();
+}
