@@ -10,6 +10,7 @@ pub mod loader;
 pub mod machine;
 pub mod page;
 pub mod protocol;
+pub mod records;
 pub mod response;
 pub mod scope;
 pub mod store;
