@@ -3,6 +3,7 @@
 
 pub mod byte_code;
 pub mod command;
+pub mod counting;
 pub mod generator;
 pub mod handler;
 pub mod history;

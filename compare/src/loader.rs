@@ -304,13 +304,15 @@ impl<'a> Judge<'a> {
 
     fn set_variable(&mut self, tlv: Tlv) {
         let mut pairs = NumberedTlvs::new(self.bytes, tlv);
+        let mut has_source = false;
         for (_, source) in pairs.by_ref() {
-            if !SOURCE_TAGS.contains(&source.tag) {
-                self.note(4, source.at);
+            match SOURCE_TAGS.contains(&source.tag) {
+                true => has_source = true,
+                false => self.note(4, source.at),
             }
         }
-        // A number at the end with nothing to set it to.
-        if !pairs.is_done() {
+        // No value at all, or a number at the end with nothing to set it to.
+        if !has_source || !pairs.is_done() {
             self.note(4, tlv.at);
         }
     }

@@ -215,10 +215,30 @@ fn append_words(out: &mut Vec<u8>, words: &[&dyn fmt::Display]) {
     }
 }
 
+/// Who answers lines.
+pub trait Answers {
+    /// Appends the answer to a line, if it has one.
+    fn answer_line(&mut self, line: &[u8], out: &mut Vec<u8>);
+}
+
+impl Answers for Host {
+    fn answer_line(&mut self, line: &[u8], out: &mut Vec<u8>) {
+        Host::answer_line(self, line, out);
+    }
+}
+
+/// Answers every line of the input by a new card.
+pub fn serve(input: impl Read, output: impl Write) -> io::Result<()> {
+    serve_by(&mut Host::default(), input, output)
+}
+
 /// Answers every line of the input, and writes out before it waits for more.
-pub fn serve(input: impl Read, mut output: impl Write) -> io::Result<()> {
+pub fn serve_by(
+    host: &mut impl Answers,
+    input: impl Read,
+    mut output: impl Write,
+) -> io::Result<()> {
     let mut input = BufReader::with_capacity(1 << 16, input);
-    let mut host = Host::default();
     let mut line = Vec::new();
     let mut answers = Vec::new();
     loop {

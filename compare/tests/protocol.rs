@@ -21,6 +21,12 @@ fn lengths_that_are_wrong_are_refused() {
 }
 
 #[test]
+fn a_set_variable_without_a_value_is_refused_at_its_own_tag() {
+    assert_eq!(answers("load 010e0201410a090b01314004800b0131\n"), "load 4 10\n");
+    assert_eq!(answers("load 01110201410a0c0b01314007800b0131810e00\n"), "load 4 13\n");
+}
+
+#[test]
 fn lines_that_are_no_call_change_nothing() {
     let lines = [
         "halt",
