@@ -46,6 +46,13 @@ extern "C" {
         value: *mut u8,
         value_length: usize,
     ) -> u64;
+    fn usat_judge(page: *const u8, page_length: usize) -> u64;
+}
+
+/// The loader alone: 0 for an accepted page.
+pub fn judge(page: &[u8]) -> u64 {
+    // SAFETY: the pointer goes with the slice's length.
+    unsafe { usat_judge(page.as_ptr(), page.len()) }
 }
 
 /// A call's number, taken apart.
