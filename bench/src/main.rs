@@ -66,7 +66,11 @@ fn judge(length: usize, rich: bool) {
     report(
         &format!("judging a {kind} page of {length} bytes"),
         JUDGINGS,
-        || (0..JUDGINGS).for_each(|_| drop(black_box(calls::judge(black_box(&page))))),
+        || {
+            for _ in 0..JUDGINGS {
+                black_box(calls::judge(black_box(&page)));
+            }
+        },
         || {
             for _ in 0..JUDGINGS {
                 black_box(compare::loader::judge(black_box(&page))).expect("accepted");
