@@ -1,1 +1,4 @@
 pub mod PackLaws
+pub mod Small
+pub mod Sent
+pub mod Changes

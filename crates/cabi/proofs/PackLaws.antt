@@ -14,7 +14,7 @@ use Rattle.rules.proofs.Choices.{both}
 use Rattle.rules.proofs.Offsets.{JudgedIn, judge-in}
 use Rattle.cabi.specs.Packed.{packed}
 
-abbrev Low : Judged → Type 0
+abbrev pub Low : Judged → Type 0
 Low Accepted = Prim.Unit {0}
 Low (Rejected class at) = at ≤ 4096
 
@@ -22,7 +22,7 @@ lower : (n : ℕ) → n ≤ 4096 → (j : Judged) → JudgedIn n j → Low j
 lower n l Accepted h = tt
 lower n l (Rejected class at) h = let k = h .1 in omega arith
 
-judge-low : (s : List ℕ) → Low (judge s)
+pub judge-low : (s : List ℕ) → Low (judge s)
 unfolding judge
 judge-low s =
     both (eqb (length s) 0) (λ t. simp t (omega arith))
