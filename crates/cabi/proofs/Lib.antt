@@ -2,3 +2,4 @@ pub mod PackLaws
 pub mod Small
 pub mod Sent
 pub mod Changes
+pub mod ServeLaws
