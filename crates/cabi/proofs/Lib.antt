@@ -3,3 +3,4 @@ pub mod Small
 pub mod Sent
 pub mod Changes
 pub mod ServeLaws
+pub mod FitLaws

@@ -128,7 +128,7 @@ module _ (c : Card) where
       (λ t. respond-fine response buffer (reply response) t) (λ e. stays-card c e (respond response buffer))
 
 -- the steps that a run counts
-abbrev CountedTo : ℕ → Answer → Type 0
+abbrev pub CountedTo : ℕ → Answer → Type 0
 CountedTo n (told t) = Prim.Unit {0}
 CountedTo n (loaded l) = Prim.Unit {0}
 CountedTo n (taken s buffer reference) = Prim.Unit {0}

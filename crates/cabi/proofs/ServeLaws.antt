@@ -7,7 +7,7 @@ use mathlib.Core.Path.{_≡_, refl, sym, ap, subst, _∙_}
 use native.Mathlib.Omega.{arith}
 use lib.ListN.{length, length-append}
 use lib.Dec.{ltb, leb, eqb}
-use borrow.Author.Tests.{eq-eqb, ne-eqb, lt-leb, le-leb, leb-true}
+use borrow.Author.Tests.{eq-eqb, ne-eqb, lt-leb, le-leb, leb-true, not-true, not-false}
 use Rattle.rules.specs.Numbers.{number, toldNumber, loadedNumber, outcomeNumber, offset}
 use Rattle.rules.specs.Card.{Card, created}
 use Rattle.rules.specs.IsCard.{isCard}
@@ -278,3 +278,17 @@ module _ (s : List ℕ) (l : length s ≡ size) where
         goes = λ o. rw d (sound-is (decoded s) (sym (reached (readVariable n id)) ∙ o));
         stays = λ o. refl;
       }
+
+-- the buffer of a call that changed nothing, and of one that did
+module _ (w : Bool) (a s : List ℕ) where
+  pub settle-kept : w ≡ false → s ≡ cond w a s
+  settle-kept e = sym (rw e refl)
+
+  pub settle-laid : w ≡ true → (t : List ℕ) → t ≡ a → t ≡ cond w a s
+  settle-laid e t f = f ∙ sym (rw e refl)
+
+pub ruleset misfit-laws = (create-misfit, set-misfit, load-misfit, step-misfit, run-misfit, respond-misfit, end-misfit, read-misfit, read-short)
+
+pub ruleset serve-laws = (create-serves, set-serves, end-serves, load-serves, step-serves, run-serves, respond-serves, read-serves, read-refused)
+
+pub ruleset settle-laws = (settle-kept, settle-laid, not-true, not-false)

@@ -1,17 +1,13 @@
+-- `cabi::usat_respond` meets its contract.
+-- Assumes nothing.
+use Rattle.cabi.proofs.ServeLaws.{misfit-laws, serve-laws}
+use Rattle.cabi.proofs.FitLaws.{fit-laws}
 use borrow.Author.Needs.{needs}
-use native.Mathlib.Omega.{arith}
 use Rattle.cabi.proofs.usat_respond.Statement.{statement}
 use Rattle.cabi.proofs.usat_respond.Tie as tie
-use Rattle.cabi.proofs.usat_respond.Reads as reads
-use Rattle.cabi.proofs.usat_respond.Lts as lts
-use Rattle.buffer.proofs.decode.Reads as decode-reads
-use Rattle.cabi.proofs.settle.Reads as settle-reads
-use Rattle.machine.proofs.Machine.respond.Reads as respond-reads
-use Rattle.packing.proofs.pack_responded.Reads as pack-responded-reads
-use Rattle.packing.proofs.writes.Reads as writes-reads
 
 returns : tie.Need-returns
-returns c = ?
+returns c = search (needs, misfit-laws, serve-laws, fit-laws)
 
 decode-requires : tie.Need-decode-requires
 decode-requires c κs = search needs
@@ -26,7 +22,7 @@ settle-requires : tie.Need-settle-requires
 settle-requires c κs = search needs
 
 pack-responded-requires : tie.Need-pack-responded-requires
-pack-responded-requires c κs = ?
+pack-responded-requires c κs = search (needs, misfit-laws, serve-laws, fit-laws)
 
 same-length : tie.Need-same-length
 same-length c = search needs
@@ -35,7 +31,7 @@ same-length-2 : tie.Need-same-length-2
 same-length-2 c = search needs
 
 returns-2 : tie.Need-returns-2
-returns-2 c = ?
+returns-2 c = search (needs, misfit-laws, serve-laws, fit-laws)
 
 pub usat-respond-spec : {M : Type 1} → statement M
 usat-respond-spec =

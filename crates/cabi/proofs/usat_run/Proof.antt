@@ -1,17 +1,13 @@
+-- `cabi::usat_run` meets its contract.
+-- Assumes nothing.
+use Rattle.cabi.proofs.ServeLaws.{misfit-laws, serve-laws}
+use Rattle.cabi.proofs.FitLaws.{fit-laws}
 use borrow.Author.Needs.{needs}
-use native.Mathlib.Omega.{arith}
 use Rattle.cabi.proofs.usat_run.Statement.{statement}
 use Rattle.cabi.proofs.usat_run.Tie as tie
-use Rattle.cabi.proofs.usat_run.Reads as reads
-use Rattle.cabi.proofs.usat_run.Lts as lts
-use Rattle.buffer.proofs.decode.Reads as decode-reads
-use Rattle.cabi.proofs.settle.Reads as settle-reads
-use Rattle.machine.proofs.Machine.run.Reads as run-reads
-use Rattle.packing.proofs.pack_ran.Reads as pack-ran-reads
-use Rattle.packing.proofs.writes.Reads as writes-reads
 
 returns : tie.Need-returns
-returns c = ?
+returns c = search (needs, misfit-laws, serve-laws, fit-laws)
 
 decode-requires : tie.Need-decode-requires
 decode-requires c κs = search needs
@@ -26,7 +22,7 @@ settle-requires : tie.Need-settle-requires
 settle-requires c κs = search needs
 
 pack-ran-requires : tie.Need-pack-ran-requires
-pack-ran-requires c κs = ?
+pack-ran-requires c κs = search (needs, misfit-laws, serve-laws, fit-laws)
 
 same-length : tie.Need-same-length
 same-length c = search needs
@@ -35,7 +31,7 @@ same-length-2 : tie.Need-same-length-2
 same-length-2 c = search needs
 
 returns-2 : tie.Need-returns-2
-returns-2 c = ?
+returns-2 c = search (needs, misfit-laws, serve-laws, fit-laws)
 
 pub usat-run-spec : {M : Type 1} → statement M
 usat-run-spec =

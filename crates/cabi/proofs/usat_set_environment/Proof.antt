@@ -1,17 +1,13 @@
+-- `cabi::usat_set_environment` meets its contract.
+-- Assumes nothing.
+use Rattle.cabi.proofs.ServeLaws.{misfit-laws, serve-laws}
+use Rattle.cabi.proofs.FitLaws.{fit-laws}
 use borrow.Author.Needs.{needs}
-use native.Mathlib.Omega.{arith}
 use Rattle.cabi.proofs.usat_set_environment.Statement.{statement}
 use Rattle.cabi.proofs.usat_set_environment.Tie as tie
-use Rattle.cabi.proofs.usat_set_environment.Reads as reads
-use Rattle.cabi.proofs.usat_set_environment.Lts as lts
-use Rattle.buffer.proofs.decode.Reads as decode-reads
-use Rattle.cabi.proofs.is_done.Reads as is-done-reads
-use Rattle.cabi.proofs.settle.Reads as settle-reads
-use Rattle.machine.proofs.Machine.set_environment.Reads as set-environment-reads
-use Rattle.packing.proofs.pack_told.Reads as pack-told-reads
 
 returns : tie.Need-returns
-returns c = ?
+returns c = search (needs, misfit-laws, serve-laws, fit-laws)
 
 decode-requires : tie.Need-decode-requires
 decode-requires c κs = search needs
@@ -32,7 +28,7 @@ same-length : tie.Need-same-length
 same-length c = search needs
 
 returns-2 : tie.Need-returns-2
-returns-2 c = ?
+returns-2 c = search (needs, misfit-laws, serve-laws, fit-laws)
 
 pub usat-set-environment-spec : {M : Type 1} → statement M
 usat-set-environment-spec =

@@ -1,17 +1,13 @@
+-- `cabi::usat_step` meets its contract.
+-- Assumes nothing.
+use Rattle.cabi.proofs.ServeLaws.{misfit-laws, serve-laws}
+use Rattle.cabi.proofs.FitLaws.{fit-laws}
 use borrow.Author.Needs.{needs}
-use native.Mathlib.Omega.{arith}
 use Rattle.cabi.proofs.usat_step.Statement.{statement}
 use Rattle.cabi.proofs.usat_step.Tie as tie
-use Rattle.cabi.proofs.usat_step.Reads as reads
-use Rattle.cabi.proofs.usat_step.Lts as lts
-use Rattle.buffer.proofs.decode.Reads as decode-reads
-use Rattle.cabi.proofs.settle.Reads as settle-reads
-use Rattle.machine.proofs.Machine.step.Reads as step-reads
-use Rattle.packing.proofs.pack_stepped.Reads as pack-stepped-reads
-use Rattle.packing.proofs.writes.Reads as writes-reads
 
 returns : tie.Need-returns
-returns c = ?
+returns c = search (needs, misfit-laws, serve-laws, fit-laws)
 
 decode-requires : tie.Need-decode-requires
 decode-requires c κs = search needs
@@ -26,7 +22,7 @@ settle-requires : tie.Need-settle-requires
 settle-requires c κs = search needs
 
 pack-stepped-requires : tie.Need-pack-stepped-requires
-pack-stepped-requires c κs = ?
+pack-stepped-requires c κs = search (needs, misfit-laws, serve-laws, fit-laws)
 
 same-length : tie.Need-same-length
 same-length c = search needs
@@ -35,7 +31,7 @@ same-length-2 : tie.Need-same-length-2
 same-length-2 c = search needs
 
 returns-2 : tie.Need-returns-2
-returns-2 c = ?
+returns-2 c = search (needs, misfit-laws, serve-laws, fit-laws)
 
 pub usat-step-spec : {M : Type 1} → statement M
 usat-step-spec =
