@@ -1,33 +1,28 @@
 -- Which answers change the state: 0, and the numbers that end a page in a step, a run or a response. Where there is no card, none does.
 -- Assumes nothing.
 use Prim.Native.Nat.{ℕ, _≤_}
-use mathlib.Core.Bool.{Bool, true, false, cond, true≢false, false≢true}
+use mathlib.Core.Bool.{Bool, true, false, cond, true≢false}
 use mathlib.Core.List.{List, [], _∷_}
-use mathlib.Core.Path.{_≡_, refl, sym, ap, _∙_}
+use mathlib.Core.Path.{_≡_, refl, _∙_}
 use native.Mathlib.Omega.{arith}
 use lib.ListN.{length}
 use lib.Dec.{ltb, eqb}
 use borrow.Author.Tests.{ltb-false, ne-eqb}
 use Rattle.rules.specs.Bytes.{among}
-use Rattle.rules.specs.Numbers.{number, toldNumber, loadedNumber, outcomeNumber, kept, leaves}
+use Rattle.rules.specs.Numbers.{number, toldNumber, loadedNumber, outcomeNumber, offset, kept, leaves}
 use Rattle.rules.specs.Loader.{judge}
 use Rattle.rules.specs.Store.{longest}
-use Rattle.rules.specs.Command.{reply}
-use Rattle.rules.specs.Step.{stepped}
 use Rattle.rules.specs.Card.{Card, runs}
 use Rattle.rules.specs.IsCard.{isCard}
-use Rattle.rules.specs.Calls.{Asked, create, setEnvironment, load, step, runUpTo, respond, end, readVariable, Answer, told, loaded, taken, ran, responded, shown, answerNumber, Did, steps, admitted, lends, ready, waiting, loadBy, loadRefused, stepDone, stepRefused, runDone, runRefused, respondRefused, respondBy, toldRefused, environmentDone, hidden, readDone, act}
+use Rattle.rules.specs.Calls.{Asked, create, setEnvironment, load, step, runUpTo, respond, end, readVariable, Answer, answerNumber, Did, admitted, lends, ready, waiting, loadBy, loadRefused, stepRefused, runRefused, respondRefused, toldRefused, environmentDone, hidden, readDone, act}
 use Rattle.rules.specs.declared.Judged.{Judged}
 use Rattle.rules.specs.declared.Judged.the-variants.{Accepted, Rejected}
-use Rattle.rules.specs.declared.Told.{Told}
-use Rattle.rules.specs.declared.Told.the-variants.{Done, Undone}
-use Rattle.rules.specs.declared.Loaded.{Loaded}
-use Rattle.rules.specs.declared.Loaded.the-variants.{Started, Faulty, Unloaded}
 use Rattle.rules.specs.declared.Refusal.{Refusal}
-use Rattle.rules.specs.declared.Refusal.the-variants.{Buffer, Call, State as NoCard}
-use Rattle.rules.proofs.Choices.{both, either}
+use Rattle.rules.specs.declared.Refusal.the-variants.{Buffer, State as NoCard}
+use Rattle.rules.proofs.Choices.{either}
 use Rattle.rules.proofs.Refusals.{kept-as-it-was}
-use Rattle.cabi.specs.Serves.{isDone, isStarted, finds}
+use Rattle.packing.specs.Packed.{kindOf, sizeOf, highOf, packed}
+use Rattle.cabi.specs.Serves.{finds}
 
 kept-number : (n : ℕ) → 32 ≤ n → leaves n ≡ kept
 unfolding leaves among
@@ -39,49 +34,35 @@ pub low-keeps : (k : Asked) (c : Card) (a : Answer) → a ≡ act k c .answer �
 low-keeps k c a e h = kept-as-it-was k c (kept-number (answerNumber (act k c .answer)) (ltb-false _ 32 (rw e at h)))
 
 module _ (c : Card) where
-  abbrev Done-keeps : Did → Type 0
-  Done-keeps d = (t : Told) → told t ≡ d .answer → isDone t ≡ false → d .card ≡ c
+  -- a write, an end or a load changes the state where it is answered 0
+  abbrev Keeps : Did → Type 0
+  Keeps d = (packed (d .answer) ≡ 0 → ⊥) → d .card ≡ c
 
-  done-not : (t : Told) → told t ≡ told Done → isDone t ≡ false → ⊥
-  unfolding isDone
-  done-not Done e h = true≢false h
-  done-not (Undone r) e h = let z : _≡_ {A = ℕ} 0 1 = cc in omega arith
-
-  admitted-done : (lent fitting : Bool) (refuse : Refusal → Did) (go : Did) → ((r : Refusal) → refuse r .card ≡ c) → Done-keeps go → Done-keeps (admitted lent c fitting refuse go)
+  admitted-keeps : (lent fitting : Bool) (refuse : Refusal → Did) (go : Did) → ((r : Refusal) → refuse r .card ≡ c) → Keeps go → Keeps (admitted lent c fitting refuse go)
   unfolding admitted
-  admitted-done lent fitting refuse go f g =
-      either Done-keeps lent (λ _. either Done-keeps (isCard c) (λ _. either Done-keeps fitting (λ _. g) (λ _ t e h. f _)) (λ _ t e h. f _)) (λ _ t e h. f _)
+  admitted-keeps lent fitting refuse go f g =
+      either Keeps lent (λ _. either Keeps (isCard c) (λ _. either Keeps fitting (λ _. g) (λ _ h. f _)) (λ _ h. f _)) (λ _ h. f _)
 
-  pub end-keeps : (t : Told) → told t ≡ act end c .answer → isDone t ≡ false → act end c .card ≡ c
-  unfolding act toldRefused
-  end-keeps = admitted-done true (runs c) (toldRefused c) _ (λ r. refl) (λ t e h. absurd (done-not t e h))
+  pub end-keeps : (packed (act end c .answer) ≡ 0 → ⊥) → act end c .card ≡ c
+  unfolding act toldRefused packed answerNumber toldNumber kindOf sizeOf highOf
+  end-keeps = admitted-keeps true (runs c) (toldRefused c) _ (λ r. refl) (λ h. absurd (h refl))
 
-  pub set-keeps : (n : ℕ) (value : List ℕ) (t : Told) → told t ≡ act (setEnvironment n value) c .answer → isDone t ≡ false → act (setEnvironment n value) c .card ≡ c
-  unfolding act toldRefused environmentDone
+  pub set-keeps : (n : ℕ) (value : List ℕ) → (packed (act (setEnvironment n value) c .answer) ≡ 0 → ⊥) → act (setEnvironment n value) c .card ≡ c
+  unfolding act toldRefused environmentDone packed answerNumber toldNumber kindOf sizeOf highOf
   set-keeps n value =
-      admitted-done true (cond (runs c) false true) (toldRefused c) (environmentDone n value c) (λ r. refl)
-      (either Done-keeps (ltb 0x3F n) (λ _ t e h. refl)
-      (λ _. either Done-keeps (eqb n 5) (λ _ t e h. refl)
-      (λ _. either Done-keeps (ltb longest (length value)) (λ _ t e h. refl) (λ _ t e h. absurd (done-not t e h)))))
+      admitted-keeps true (cond (runs c) false true) (toldRefused c) (environmentDone n value c) (λ r. refl)
+      (either Keeps (ltb 0x3F n) (λ _ h. refl)
+      (λ _. either Keeps (eqb n 5) (λ _ h. refl)
+      (λ _. either Keeps (ltb longest (length value)) (λ _ h. refl) (λ _ h. absurd (h refl)))))
 
-  abbrev Started-keeps : Did → Type 0
-  Started-keeps d = (l : Loaded) → loaded l ≡ d .answer → isStarted l ≡ false → d .card ≡ c
+  judged-keeps : (s : List ℕ) (j : Judged) → Keeps (loadBy s c j)
+  unfolding loadBy packed answerNumber loadedNumber offset kindOf sizeOf highOf
+  judged-keeps s Accepted h = absurd (h refl)
+  judged-keeps s (Rejected class at) h = refl
 
-  started-not : (l : Loaded) → loaded l ≡ loaded Started → isStarted l ≡ false → ⊥
-  unfolding isStarted
-  started-not Started e h = true≢false h
-  started-not (Faulty class at) e h = let z : _≡_ {A = ℕ} 0 1 = cc in omega arith
-  started-not (Unloaded r) e h = let z : _≡_ {A = ℕ} 0 1 = cc in omega arith
-
-  load-started : (s : List ℕ) (j : Judged) → Started-keeps (loadBy s c j)
-  unfolding loadBy
-  load-started s Accepted l e h = absurd (started-not l e h)
-  load-started s (Rejected class at) l e h = refl
-
-  pub load-keeps : (s : List ℕ) (l : Loaded) → loaded l ≡ act (load s) c .answer → isStarted l ≡ false → act (load s) c .card ≡ c
-  unfolding act admitted loadRefused
-  load-keeps s =
-      either Started-keeps (isCard c) (λ _. either Started-keeps (cond (runs c) false true) (λ _. load-started s (judge s)) (λ _ l e h. refl)) (λ _ l e h. refl)
+  pub load-keeps : (s : List ℕ) → (packed (act (load s) c .answer) ≡ 0 → ⊥) → act (load s) c .card ≡ c
+  unfolding act loadRefused
+  load-keeps s = admitted-keeps true (cond (runs c) false true) (loadRefused c) (loadBy s c (judge s)) (λ r. refl) (judged-keeps s (judge s))
 
   -- without a card a call is refused by 32 or 35
   module _ (f : isCard c ≡ false) where

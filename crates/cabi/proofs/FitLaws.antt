@@ -1,33 +1,26 @@
 -- What a machine answers fits its bits, in the shape of what the proofs need.
 -- Assumes nothing.
 use Prim.Native.Nat.{ℕ, _+_, _-_, _≤_, _<_}
-use mathlib.Core.Bool.{true, false}
 use mathlib.Core.List.{List}
-use mathlib.Core.Path.{_≡_, refl, sym, ap, subst}
+use mathlib.Core.Path.{_≡_, refl, sym, subst}
 use native.Mathlib.Omega.{arith}
-use lib.ListN.{length, replicate, length-append, length-replicate}
+use lib.ListN.{length, replicate, length-append}
 use Rattle.rules.specs.Numbers.{number, offset}
 use Rattle.rules.specs.Card.{Slot, free, held, Card}
 use Rattle.rules.specs.Store.{longest, area}
 use Rattle.rules.specs.IsCard.{isCard}
 use Rattle.rules.specs.Calls.{load, step, runUpTo, respond, readVariable, Answer, told, loaded, taken, ran, responded, shown, padded, hidden, display, seen, readDone, act}
 use Rattle.rules.specs.declared.Loaded.{Loaded}
-use Rattle.rules.specs.declared.Told.{Told}
-use Rattle.rules.specs.declared.Told.the-variants.{Done, Undone}
-use Rattle.rules.specs.declared.Loaded.the-variants.{Started, Faulty, Unloaded}
-use Rattle.rules.specs.declared.Refusal.{Refusal}
 use Rattle.rules.specs.declared.Refusal.the-variants.{State as NoCard}
 use Rattle.rules.specs.declared.Outcome.{Outcome}
 use Rattle.rules.specs.declared.Stepped.{Stepped}
 use Rattle.rules.specs.declared.Ran.{Ran}
 use Rattle.rules.specs.declared.Shown.{Shown}
 use Rattle.rules.proofs.Choices.{either}
-use Rattle.state.specs.declared.State.{State}
 use Rattle.state.specs.State.{cardOf}
 use Rattle.machine.specs.declared.Machine.{Machine}
 use Rattle.machine.specs.Meets.{Meets}
 use Rattle.packing.specs.Packed.{commandLength}
-use Rattle.cabi.specs.Serves.{isDone, isStarted}
 use Rattle.cabi.proofs.Sent.{Fits, load-fits, step-fits, run-fits, respond-fits, CountedTo, run-counts}
 
 module _ (x m : Machine) where
@@ -89,27 +82,3 @@ module _ (x m : Machine) (n : ℕ) (id : List ℕ) (s : Shown) (met : Meets (rea
   read-none z = let k = shows .1 z in omega arith
 
 pub ruleset fit-laws = (load-packs, step-length, step-unit, run-length, run-count, respond-length, read-length, read-none)
-
-module _ (t : Told) where
-  pub told-done : t ≡ Done → true ≡ isDone t
-  unfolding isDone
-  told-done e = sym (ap isDone e)
-
-  pub told-undone : (r : Refusal) → t ≡ Undone r → false ≡ isDone t
-  unfolding isDone
-  told-undone r e = sym (ap isDone e)
-
-module _ (l : Loaded) where
-  pub loaded-started : l ≡ Started → true ≡ isStarted l
-  unfolding isStarted
-  loaded-started e = sym (ap isStarted e)
-
-  pub loaded-faulty : (class at : ℕ) → l ≡ Faulty class at → false ≡ isStarted l
-  unfolding isStarted
-  loaded-faulty class at e = sym (ap isStarted e)
-
-  pub loaded-refused : (r : Refusal) → l ≡ Unloaded r → false ≡ isStarted l
-  unfolding isStarted
-  loaded-refused r e = sym (ap isStarted e)
-
-pub ruleset case-laws = (told-done, told-undone, loaded-started, loaded-faulty, loaded-refused)

@@ -4,3 +4,4 @@ pub mod Sent
 pub mod Changes
 pub mod ServeLaws
 pub mod FitLaws
+pub mod Unique

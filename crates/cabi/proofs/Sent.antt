@@ -3,7 +3,7 @@
 use Prim.Native.Nat.{ℕ, zero, suc, _+_, _≤_, _<_}
 use mathlib.Core.Bool.{Bool, true, cond}
 use mathlib.Core.List.{List}
-use mathlib.Core.Path.{_≡_, refl}
+use mathlib.Core.Path.{_≡_}
 use native.Mathlib.Omega.{arith}
 use lib.ListN.{length}
 use lib.Dec.{eqb}
@@ -13,14 +13,14 @@ use Rattle.rules.specs.Card.{Card, withRun, inHand, runs}
 use Rattle.rules.specs.Command.{reply}
 use Rattle.rules.specs.Step.{Move, onwards, jump, away, back, send, finish, Plan, refuses, does, runsOut, Effect, sending, wanting, backTo, goBack, moved, applied, decide, stepped, here, answerFor, answered}
 use Rattle.rules.specs.IsCard.{isCard}
-use Rattle.rules.specs.Calls.{Asked, load, step, runUpTo, respond, Answer, told, loaded, taken, ran, responded, shown, Did, Counted, steps, goesOn, admitted, lends, ready, waiting, loadBy, loadRefused, stepDone, stepRefused, runDone, runRefused, respondDone, respondRefused, respondBy, act}
+use Rattle.rules.specs.Calls.{load, step, runUpTo, respond, Answer, told, loaded, taken, ran, responded, shown, Did, Counted, steps, goesOn, admitted, lends, ready, waiting, loadBy, loadRefused, stepDone, stepRefused, runDone, runRefused, respondDone, respondRefused, respondBy, act}
 use Rattle.rules.specs.declared.Head.{Head}
 use Rattle.rules.specs.declared.Target.{Target}
 use Rattle.rules.specs.declared.Target.the-variants.{Unit as Own, Lacking, Other}
 use Rattle.rules.specs.declared.Judged.{Judged}
 use Rattle.rules.specs.declared.Judged.the-variants.{Accepted, Rejected}
 use Rattle.rules.specs.declared.Refusal.{Refusal}
-use Rattle.rules.specs.declared.Refusal.the-variants.{Buffer, Call, Response, State as NoCard}
+use Rattle.rules.specs.declared.Refusal.the-variants.{Buffer, Call, State as NoCard}
 use Rattle.rules.specs.declared.Reply.{Reply}
 use Rattle.rules.specs.declared.Reply.the-variants.{Result, Malformed}
 use Rattle.rules.proofs.Choices.{either}

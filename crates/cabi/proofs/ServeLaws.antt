@@ -3,22 +3,15 @@
 use Prim.Native.Nat.{ℕ, _<_, _≤_}
 use mathlib.Core.Bool.{Bool, true, false, cond, true≢false, false≢true}
 use mathlib.Core.List.{List, []}
-use mathlib.Core.Path.{_≡_, refl, sym, ap, subst, _∙_}
+use mathlib.Core.Path.{_≡_, refl, sym, ap, _∙_}
 use native.Mathlib.Omega.{arith}
-use lib.ListN.{length, length-append}
+use lib.ListN.{length}
 use lib.Dec.{ltb, leb, eqb}
-use borrow.Author.Tests.{eq-eqb, ne-eqb, lt-leb, le-leb, leb-true, not-true, not-false}
+use borrow.Author.Tests.{eq-eqb, ne-eqb, eqb-true, eqb-false, lt-leb, le-leb, leb-true, not-true, not-false}
 use Rattle.rules.specs.Numbers.{number, toldNumber, loadedNumber, outcomeNumber, offset}
 use Rattle.rules.specs.Card.{Card, created}
 use Rattle.rules.specs.IsCard.{isCard}
-use Rattle.rules.specs.Calls.{Asked, create, setEnvironment, load, step, runUpTo, respond, end, readVariable, Answer, told, loaded, taken, ran, responded, shown, answerNumber, Did, referenceAfter, over, padded, display, readDone, seen, lends, hidden, toldRefused, loadRefused, stepRefused, runRefused, respondRefused, act, refusedBuffer, actIn}
-use Rattle.rules.specs.declared.Told.{Told}
-use Rattle.rules.specs.declared.Told.the-variants.{Done, Undone}
-use Rattle.rules.specs.declared.Loaded.{Loaded}
-use Rattle.rules.specs.declared.Loaded.the-variants.{Started, Faulty, Unloaded}
-use Rattle.rules.specs.declared.Outcome.{Outcome}
-use Rattle.rules.specs.declared.Stepped.{Stepped}
-use Rattle.rules.specs.declared.Ran.{Ran}
+use Rattle.rules.specs.Calls.{Asked, create, setEnvironment, load, step, runUpTo, respond, end, readVariable, Answer, told, loaded, taken, ran, responded, shown, answerNumber, Did, over, lends, hidden, toldRefused, loadRefused, stepRefused, runRefused, respondRefused, act, refusedBuffer, actIn}
 use Rattle.rules.specs.declared.Shown.{Shown}
 use Rattle.rules.proofs.Choices.{both}
 use Rattle.rules.proofs.StaysCard.{created-card, stays-card}
@@ -26,7 +19,7 @@ use Rattle.rules.proofs.Refusals.{read-as-it-was}
 use Rattle.pour.specs.Pour.{poured}
 use Rattle.pour.proofs.StrideLaws.{all-first, all-rest}
 use Rattle.state.specs.declared.State.{State}
-use Rattle.state.specs.State.{Is, card, cardOf, tidy, tidyPage}
+use Rattle.state.specs.State.{Is, card, cardOf, tidyPage}
 use Rattle.state.proofs.Canonical.{is-tidy}
 use Rattle.buffer.specs.Buffer.{size, decoded, encoded}
 use Rattle.buffer.proofs.Codec.{decode-encode, length-encoded}
@@ -39,9 +32,8 @@ use Rattle.machine.specs.declared.Answered.{Answered}
 use Rattle.machine.specs.Meets.{Meets}
 use Rattle.machine.proofs.Parts.{sound-is}
 use Rattle.packing.specs.Packed.{laid, outcomeKind, commandLength, kindOf, sizeOf, highOf, packed}
-use Rattle.cabi.specs.Serves.{isDone, isStarted, hasRoom, served, finds, reaches, lentAfter, Serves}
+use Rattle.cabi.specs.Serves.{hasRoom, served, finds, reaches, lentAfter, Serves}
 use Rattle.cabi.proofs.Small.{card-small}
-use Rattle.cabi.proofs.Sent.{Fits, load-fits, step-fits, run-fits, respond-fits, run-counts}
 use Rattle.cabi.proofs.Changes.{low-keeps, end-keeps, set-keeps, load-keeps, none-high}
 
 -- a state that is a card is laid in the buffer and comes back
@@ -120,16 +112,10 @@ module _ (s : List ℕ) (l : length s ≡ size → ⊥) where
   unfolding refusedBuffer hidden packed answerNumber number kindOf sizeOf highOf lentAfter
   read-misfit n id lent = misfit (readVariable n id) lent 32 refl refl
 
-done-low : (t : Told) → isDone t ≡ true → ltb (toldNumber t) 32 ≡ true
-unfolding isDone toldNumber
-done-low Done e = refl
-done-low (Undone r) e = absurd (false≢true e)
-
-started-low : (l : Loaded) → isStarted l ≡ true → ltb (loadedNumber l) 32 ≡ true
-unfolding isStarted loadedNumber
-started-low Started e = refl
-started-low (Faulty class at) e = absurd (false≢true e)
-started-low (Unloaded r) e = absurd (false≢true e)
+-- an answer that is packed as 0 is 0
+packed-low : (a : Answer) → packed a ≡ 0 → ltb (answerNumber a) 32 ≡ true
+unfolding packed
+packed-low a e = let z : answerNumber a ≡ 0 = omega arith in rw z refl
 
 -- a state buffer of the named length
 module _ (s : List ℕ) (l : length s ≡ size) where
@@ -208,25 +194,26 @@ module _ (s : List ℕ) (l : length s ≡ size) where
       serve = both w changed unchanged
 
   module _ (x : State) (e : x ≡ decoded s) where
-    pub set-serves : (n : ℕ) (value : List ℕ) (o : Settled) → Meets (setEnvironment n value) (record { state = x }) (told (o .told)) (o .machine) → (w : Bool) → w ≡ isDone (o .told) →
-        (t : List ℕ) → t ≡ cond w (encoded (o .machine .state)) s → (r : ℕ) → r ≡ packed (told (o .told)) → Serves (setEnvironment n value) s [] r t []
-    unfolding hasRoom finds lentAfter answerNumber
-    set-serves n value o met w f t g r h =
-        let k = setEnvironment n value in
-        serve k [] refl refl x e (told (o .told)) (o .machine) met w (λ y. done-low (o .told) (sym f ∙ y)) (λ y. set-keeps (cardOf (decoded s)) n value (o .told) (its k [] refl refl x e (told (o .told)) (o .machine) met) (sym f ∙ y)) r h t g [] refl
+    -- a write, an end or a load: the buffer changes where the answer is 0
+    done-serves : (k : Asked) → hasRoom k [] ≡ true → finds k (cardOf (decoded s)) ≡ isCard (cardOf (decoded s)) → (a : Answer) (m : Machine) → Meets k (record { state = x }) a m → lentAfter a [] ≡ [] →
+        ((packed (act k (cardOf (decoded s)) .answer) ≡ 0 → ⊥) → act k (cardOf (decoded s)) .card ≡ cardOf (decoded s)) → (r : ℕ) → r ≡ packed a → (t : List ℕ) → t ≡ cond (eqb r 0) (encoded (m .state)) s → Serves k s [] r t []
+    done-serves k p q a m met i low r h t g =
+        serve k [] p q x e a m met (eqb r 0) (λ y. packed-low a (sym h ∙ eqb-true r 0 y)) (λ y. low (λ z. eqb-false r 0 y (h ∙ ap packed (its k [] p q x e a m met) ∙ z))) r h t g [] (sym i)
 
-    pub end-serves : (o : Settled) → Meets end (record { state = x }) (told (o .told)) (o .machine) → (w : Bool) → w ≡ isDone (o .told) →
-        (t : List ℕ) → t ≡ cond w (encoded (o .machine .state)) s → (r : ℕ) → r ≡ packed (told (o .told)) → Serves end s [] r t []
-    unfolding hasRoom finds lentAfter answerNumber
-    end-serves o met w f t g r h =
-        serve end [] refl refl x e (told (o .told)) (o .machine) met w (λ y. done-low (o .told) (sym f ∙ y)) (λ y. end-keeps (cardOf (decoded s)) (o .told) (its end [] refl refl x e (told (o .told)) (o .machine) met) (sym f ∙ y)) r h t g [] refl
+    pub set-serves : (n : ℕ) (value : List ℕ) (o : Settled) → Meets (setEnvironment n value) (record { state = x }) (told (o .told)) (o .machine) →
+        (r : ℕ) → r ≡ packed (told (o .told)) → (t : List ℕ) → t ≡ cond (eqb r 0) (encoded (o .machine .state)) s → Serves (setEnvironment n value) s [] r t []
+    unfolding hasRoom finds lentAfter
+    set-serves n value o met = done-serves (setEnvironment n value) refl refl (told (o .told)) (o .machine) met refl (set-keeps (cardOf (decoded s)) n value)
 
-    pub load-serves : (page : List ℕ) (o : Begun) → Meets (load page) (record { state = x }) (loaded (o .loaded)) (o .machine) → (w : Bool) → w ≡ isStarted (o .loaded) →
-        (t : List ℕ) → t ≡ cond w (encoded (o .machine .state)) s → (r : ℕ) → r ≡ packed (loaded (o .loaded)) → Serves (load page) s [] r t []
-    unfolding hasRoom finds lentAfter answerNumber
-    load-serves page o met w f t g r h =
-        let k = load page in
-        serve k [] refl refl x e (loaded (o .loaded)) (o .machine) met w (λ y. started-low (o .loaded) (sym f ∙ y)) (λ y. load-keeps (cardOf (decoded s)) page (o .loaded) (its k [] refl refl x e (loaded (o .loaded)) (o .machine) met) (sym f ∙ y)) r h t g [] refl
+    pub end-serves : (o : Settled) → Meets end (record { state = x }) (told (o .told)) (o .machine) →
+        (r : ℕ) → r ≡ packed (told (o .told)) → (t : List ℕ) → t ≡ cond (eqb r 0) (encoded (o .machine .state)) s → Serves end s [] r t []
+    unfolding hasRoom finds lentAfter
+    end-serves o met = done-serves end refl refl (told (o .told)) (o .machine) met refl (end-keeps (cardOf (decoded s)))
+
+    pub load-serves : (page : List ℕ) (o : Begun) → Meets (load page) (record { state = x }) (loaded (o .loaded)) (o .machine) →
+        (r : ℕ) → r ≡ packed (loaded (o .loaded)) → (t : List ℕ) → t ≡ cond (eqb r 0) (encoded (o .machine .state)) s → Serves (load page) s [] r t []
+    unfolding hasRoom finds lentAfter
+    load-serves page o met = done-serves (load page) refl refl (loaded (o .loaded)) (o .machine) met refl (load-keeps (cardOf (decoded s)) page)
 
     module _ (before after : List ℕ) (w : Bool) (t : List ℕ) (r : ℕ) where
       pub step-serves : (o : Taken) (ref : List ℕ) → Meets (step before) (record { state = x }) (taken (o .stepped) after ref) (o .machine) → w ≡ ltb (outcomeNumber (o .stepped .outcome)) 32 →

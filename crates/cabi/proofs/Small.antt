@@ -19,7 +19,6 @@ use Rattle.rules.specs.declared.Head.{Head}
 use Rattle.rules.specs.declared.Head.the-variants.{Tlv, Past}
 use Rattle.rules.specs.declared.Spot.{Spot}
 use Rattle.rules.specs.declared.Spot.the-variants.{After, Cut}
-use Rattle.rules.specs.declared.Judged.{Judged}
 use Rattle.rules.proofs.Choices.{both, either}
 use Rattle.rules.proofs.BlankTests.{first, second}
 use Rattle.rules.proofs.Offsets.{HeadIn, head-in, RowIn, row-in, SpotIn, attributes-end-in}

@@ -8,22 +8,9 @@ use lib.Dec.{eqb}
 use Rattle.rules.specs.Card.{Card}
 use Rattle.rules.specs.IsCard.{isCard}
 use Rattle.rules.specs.Calls.{Asked, create, setEnvironment, load, step, runUpTo, respond, end, readVariable, Answer, told, loaded, taken, ran, responded, shown, Did, over, lends, refusedBuffer, actIn}
-use Rattle.rules.specs.declared.Told.{Told}
-use Rattle.rules.specs.declared.Told.the-variants.{Done, Undone}
-use Rattle.rules.specs.declared.Loaded.{Loaded}
-use Rattle.rules.specs.declared.Loaded.the-variants.{Started, Faulty, Unloaded}
 use Rattle.state.specs.State.{Is, cardOf}
 use Rattle.buffer.specs.Buffer.{size, decoded}
 use Rattle.packing.specs.Packed.{packed}
-
-unfoldable pub isDone : Told → Bool
-isDone Done = true
-isDone (Undone r) = false
-
-unfoldable pub isStarted : Loaded → Bool
-isStarted Started = true
-isStarted (Faulty class at) = false
-isStarted (Unloaded r) = false
 
 -- a read asks for room for the longest value (House); the room for a command is tested by the call itself
 unfoldable pub hasRoom : Asked → List ℕ → Bool

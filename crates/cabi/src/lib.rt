@@ -1,8 +1,6 @@
 // The interpreter for C: the state of a card lies in a lent buffer of 56,701 bytes, and what a call answers comes back packed in one number.
 use machine::Machine;
 use rules::Judged;
-use rules::Loaded;
-use rules::Told;
 ghost use mathlib.Core.Path.{_≡_};
 ghost use mathlib.Core.Bool.{cond};
 ghost use mathlib.Core.List.{[]};
@@ -12,7 +10,7 @@ ghost use Rattle.rules.specs.Loader.{judge};
 ghost use Rattle.rules.specs.Calls.{create, setEnvironment, load, step, runUpTo, respond, end, readVariable};
 ghost use Rattle.buffer.specs.Buffer.{size, encoded};
 ghost use Rattle.cabi.specs.Packed.{packed};
-ghost use Rattle.cabi.specs.Serves.{isDone, isStarted, Serves};
+ghost use Rattle.cabi.specs.Serves.{Serves};
 
 // A number in the lowest byte and an offset above it.
 fn pack(number: u8, at: usize) -> u64
@@ -31,27 +29,6 @@ pub extern "C" fn usat_judge(page: &[u8]) -> u64
     match judged {
         Judged::Accepted => 0,
         Judged::Rejected(number, at) => pack(number, at),
-    }
-}
-
-// A refused write or end leaves all as it was.
-fn is_done(told: Told) -> bool
-    ensures { λ r. ⌜ r ≡ isDone told ⌝ }
-{
-    match told {
-        Told::Done => true,
-        Told::Undone(why) => false,
-    }
-}
-
-// So does a refused load.
-fn is_started(loaded: Loaded) -> bool
-    ensures { λ r. ⌜ r ≡ isStarted loaded ⌝ }
-{
-    match loaded {
-        Loaded::Started => true,
-        Loaded::Faulty(class, at) => false,
-        Loaded::Unloaded(why) => false,
     }
 }
 
@@ -93,8 +70,9 @@ pub extern "C" fn usat_set_environment(state: &mut [u8], number: u8, value: &[u8
     let settled = machine.set_environment(number, value);
     let told = settled.told;
     let after = settled.machine;
-    settle(after, is_done(told), state);
-    packing::pack_told(told)
+    let answer = packing::pack_told(told);
+    settle(after, answer == 0, state);
+    answer
 }
 
 // A page is loaded.
@@ -111,8 +89,9 @@ pub extern "C" fn usat_load(state: &mut [u8], page: &[u8]) -> u64
     let begun = machine.load(page);
     let loaded = begun.loaded;
     let after = begun.machine;
-    settle(after, is_started(loaded), state);
-    packing::pack_loaded(loaded)
+    let answer = packing::pack_loaded(loaded);
+    settle(after, answer == 0, state);
+    answer
 }
 
 // One step.
@@ -185,8 +164,9 @@ pub extern "C" fn usat_end(state: &mut [u8]) -> u64
     let settled = machine.end();
     let told = settled.told;
     let after = settled.machine;
-    settle(after, is_done(told), state);
-    packing::pack_told(told)
+    let answer = packing::pack_told(told);
+    settle(after, answer == 0, state);
+    answer
 }
 
 // The host reads a variable: the value and zeros behind it, 255 bytes in all.

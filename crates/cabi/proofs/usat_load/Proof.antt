@@ -15,14 +15,11 @@ decode-requires c κs = search needs
 load-requires : tie.Need-load-requires
 load-requires c κs = search needs
 
-is-started-requires : tie.Need-is-started-requires
-is-started-requires c κs = search needs
+pack-loaded-requires : tie.Need-pack-loaded-requires
+pack-loaded-requires c κs = search (needs, misfit-laws, serve-laws, fit-laws)
 
 settle-requires : tie.Need-settle-requires
 settle-requires c κs = search needs
-
-pack-loaded-requires : tie.Need-pack-loaded-requires
-pack-loaded-requires c κs = search (needs, misfit-laws, serve-laws, fit-laws)
 
 same-length : tie.Need-same-length
 same-length c = search needs
@@ -37,8 +34,7 @@ usat-load-spec =
     returns
     decode-requires
     load-requires
-    is-started-requires
-    settle-requires
     pack-loaded-requires
+    settle-requires
     same-length
     returns-2)
