@@ -158,8 +158,8 @@ module _ (s lent : List ℕ) (r : ℕ) (t u : List ℕ) (a : Bytes s) (b : Bytes
       untouched k s lent r t u x a b (λ e. (
         found k s e,
         served-card (λ q c d. (answerNumber (d .answer) ≡ 0 → ⊥) → d .card ≡ c) k s lent (reaches-length k s e)
-          (environment-as-it-was n value (cardOf (decoded s))) (λ f i. refused-card k (cardOf (decoded s)))
-          (λ z. h (low-byte k s lent r t u x ∙ z)),
+            (environment-as-it-was n value (cardOf (decoded s))) (λ f i. refused-card k (cardOf (decoded s)))
+            (λ z. h (low-byte k s lent r t u x ∙ z)),
       ))
 
   pub read-bytes : (n : ℕ) (id : List ℕ) → Serves (readVariable n id) s lent r t u → t ≡ s

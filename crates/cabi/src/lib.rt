@@ -51,8 +51,7 @@ pub extern "C" fn usat_create(state: &mut [u8]) -> u64
     if state.len() != buffer::SIZE {
         return 32;
     }
-    let machine = Machine::create();
-    buffer::encode(machine.state, state);
+    settle(Machine::create(), true, state);
     0
 }
 
@@ -67,11 +66,10 @@ pub extern "C" fn usat_set_environment(state: &mut [u8], number: u8, value: &[u8
     let machine = Machine {
         state: buffer::decode(state),
     };
-    let settled = machine.set_environment(number, value);
-    let told = settled.told;
-    let after = settled.machine;
+    let written = machine.set_environment(number, value);
+    let told = written.told;
     let answer = packing::pack_told(told);
-    settle(after, answer == 0, state);
+    settle(written.machine, answer == 0, state);
     answer
 }
 
@@ -88,9 +86,8 @@ pub extern "C" fn usat_load(state: &mut [u8], page: &[u8]) -> u64
     };
     let begun = machine.load(page);
     let loaded = begun.loaded;
-    let after = begun.machine;
     let answer = packing::pack_loaded(loaded);
-    settle(after, answer == 0, state);
+    settle(begun.machine, answer == 0, state);
     answer
 }
 
@@ -108,8 +105,7 @@ pub extern "C" fn usat_step(state: &mut [u8], command: &mut [u8]) -> u64
     let taken = machine.step(command);
     let stepped = taken.stepped;
     let outcome = stepped.outcome;
-    let after = taken.machine;
-    settle(after, packing::writes(outcome), state);
+    settle(taken.machine, packing::writes(outcome), state);
     packing::pack_stepped(stepped)
 }
 
@@ -127,8 +123,7 @@ pub extern "C" fn usat_run(state: &mut [u8], most: u32, command: &mut [u8]) -> u
     let gone = machine.run(most as usize, command);
     let ran = gone.ran;
     let outcome = ran.outcome;
-    let after = gone.machine;
-    settle(after, packing::writes(outcome), state);
+    settle(gone.machine, packing::writes(outcome), state);
     packing::pack_ran(ran)
 }
 
@@ -145,8 +140,7 @@ pub extern "C" fn usat_respond(state: &mut [u8], response: &[u8], command: &mut 
     };
     let answered = machine.respond(response, command);
     let outcome = answered.outcome;
-    let after = answered.machine;
-    settle(after, packing::writes(outcome), state);
+    settle(answered.machine, packing::writes(outcome), state);
     packing::pack_responded(outcome)
 }
 
@@ -161,11 +155,10 @@ pub extern "C" fn usat_end(state: &mut [u8]) -> u64
     let machine = Machine {
         state: buffer::decode(state),
     };
-    let settled = machine.end();
-    let told = settled.told;
-    let after = settled.machine;
+    let ended = machine.end();
+    let told = ended.told;
     let answer = packing::pack_told(told);
-    settle(after, answer == 0, state);
+    settle(ended.machine, answer == 0, state);
     answer
 }
 

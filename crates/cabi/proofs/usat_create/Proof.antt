@@ -11,8 +11,8 @@ returns c = search (needs, misfit-laws, serve-laws)
 create-requires : tie.Need-create-requires
 create-requires c κs = search needs
 
-encode-requires : tie.Need-encode-requires
-encode-requires c κs = search needs
+settle-requires : tie.Need-settle-requires
+settle-requires c κs = search needs
 
 same-length : tie.Need-same-length
 same-length c = search needs
@@ -22,4 +22,4 @@ returns-2 c = search (needs, misfit-laws, serve-laws)
 
 pub usat-create-spec : {M : Type 1} → statement M
 usat-create-spec =
-    tie.close (tie.spec returns create-requires encode-requires same-length returns-2)
+    tie.close (tie.spec returns create-requires settle-requires same-length returns-2)
