@@ -8,7 +8,7 @@ use native.Mathlib.Omega.{arith}
 use lib.ListN.{length, getD}
 use lib.Dec.{eqb, ltb}
 use borrow.Author.Tests.{eqb-true, eq-eqb, ltb-true}
-use Rattle.rules.specs.Bytes.{among}
+use Rattle.rules.specs.Bytes.{part, among}
 use Rattle.rules.specs.Numbers.{toldNumber, kept, leaves}
 use Rattle.rules.specs.Card.{Card}
 use Rattle.rules.specs.IsCard.{isCard}
@@ -17,6 +17,7 @@ use Rattle.rules.proofs.Choices.{both}
 use Rattle.rules.proofs.BlankTests.{first, second}
 use Rattle.rules.proofs.Answers.{numbers-of-the-table}
 use Rattle.rules.proofs.Refusals.{not-renewed, kept-as-it-was, environment-as-it-was, read-as-it-was, misfit-as-it-was}
+use Rattle.word.specs.Word.{wordIn}
 use Rattle.state.specs.State.{Is, cardOf}
 use Rattle.state.proofs.Canonical.{is-tidy, is-card, canonical-same}
 use Rattle.buffer.specs.Buffer.{size, decoded, encoded}
@@ -170,3 +171,8 @@ module _ (s lent : List ℕ) (r : ℕ) (t u : List ℕ) (a : Bytes s) (b : Bytes
         found k s e,
         served-card (λ q c d. d .card ≡ c) k s lent (reaches-length k s e) (read-as-it-was n id (cardOf (decoded s))) (λ f. refused-card k (cardOf (decoded s))),
       ))
+
+-- The reference of a page wanted stands in the state buffer: its length at 56,631, and its bytes behind it.
+pub wanted-there : (k : Asked) (s lent : List ℕ) (r : ℕ) (t u : List ℕ) → Serves k s lent r t u → reaches k s ≡ true → wordIn (part t 56631 56697) ≡ served k s lent .card .wanted
+unfolding decoded
+wanted-there k s lent r t u x e = x .goes e .wanted

@@ -12,6 +12,9 @@ ghost use Rattle.buffer.specs.Buffer.{size, encoded};
 ghost use Rattle.cabi.specs.Packed.{packed};
 ghost use Rattle.cabi.specs.Serves.{Serves};
 
+// 32, and above it the outcome refused: what a step, a run or a response answers for a state buffer of another length.
+const MISFIT: u64 = 0x0420;
+
 // A number in the lowest byte and an offset above it.
 fn pack(number: u8, at: usize) -> u64
     requires { ⌜ at ≤ 4096 ⌝ }
@@ -97,7 +100,7 @@ pub extern "C" fn usat_step(state: &mut [u8], command: &mut [u8]) -> u64
     ensures { λ r. ⌜ Serves (step (now (command .entry))) (now (state .entry)) (now (command .entry)) r (now (state .exit)) (now (command .exit)) ⌝ }
 {
     if state.len() != buffer::SIZE {
-        return 0x0420;
+        return MISFIT;
     }
     let machine = Machine {
         state: buffer::decode(state),
@@ -115,7 +118,7 @@ pub extern "C" fn usat_run(state: &mut [u8], most: u32, command: &mut [u8]) -> u
     ensures { λ r. ⌜ Serves (runUpTo most (now (command .entry))) (now (state .entry)) (now (command .entry)) r (now (state .exit)) (now (command .exit)) ⌝ }
 {
     if state.len() != buffer::SIZE {
-        return 0x0420;
+        return MISFIT;
     }
     let machine = Machine {
         state: buffer::decode(state),
@@ -133,7 +136,7 @@ pub extern "C" fn usat_respond(state: &mut [u8], response: &[u8], command: &mut 
     ensures { λ r. ⌜ Serves (respond (now (response .entry)) (now (command .entry))) (now (state .entry)) (now (command .entry)) r (now (state .exit)) (now (command .exit)) ⌝ }
 {
     if state.len() != buffer::SIZE {
-        return 0x0420;
+        return MISFIT;
     }
     let machine = Machine {
         state: buffer::decode(state),
