@@ -5,3 +5,4 @@ pub mod Changes
 pub mod ServeLaws
 pub mod FitLaws
 pub mod Unique
+pub mod Lent

@@ -61,11 +61,11 @@ module _ (m : State) (c : Card) (is : Is m c) (k : isCard c ≡ true) where
 
 -- a state buffer of another length
 module _ (s : List ℕ) (l : length s ≡ size → ⊥) where
-  refused : (k : Asked) (lent : List ℕ) → served k s lent ≡ refusedBuffer k (cardOf (decoded s))
+  pub refused : (k : Asked) (lent : List ℕ) → served k s lent ≡ refusedBuffer k (cardOf (decoded s))
   unfolding served actIn
   refused k lent = both (hasRoom k lent) (λ t. simp (t, ne-eqb (length s) size l) refl) (λ t. simp t refl)
 
-  barred : (k : Asked) → reaches k s ≡ false
+  pub barred : (k : Asked) → reaches k s ≡ false
   unfolding reaches
   barred k = simp (ne-eqb (length s) size l) refl
 

@@ -123,7 +123,7 @@ all-bytes (respond response buffer) = refl
 all-bytes end = refl
 all-bytes (readVariable n id) = refl
 
-refused-number : (k : Asked) (c : Card) → answerNumber (refusedBuffer k c .answer) ≡ 32
+pub refused-number : (k : Asked) (c : Card) → answerNumber (refusedBuffer k c .answer) ≡ 32
 unfolding actIn
 refused-number k c = misfit-as-it-was 0 1 (λ e. omega arith) k c .0
 
