@@ -1,8 +1,7 @@
 -- The loader's answer packed: an offset is at most 4,096. Assumes nothing.
 use Prim.Native.Nat.{ℕ, _+_, _*_, _≤_}
-use mathlib.Core.Bool.{Bool, true, false}
 use mathlib.Core.List.{List}
-use mathlib.Core.Path.{_≡_, refl, sym, ap, subst, _∙_}
+use mathlib.Core.Path.{_≡_, sym, ap, subst, _∙_}
 use native.Mathlib.Omega.{arith}
 use borrow.Author.Tests.{ltb-false}
 use lib.ListN.{length}
@@ -14,7 +13,7 @@ use Rattle.rules.proofs.Choices.{both}
 use Rattle.rules.proofs.Offsets.{JudgedIn, judge-in}
 use Rattle.cabi.specs.Packed.{packed}
 
-abbrev Low : Judged → Type 0
+abbrev pub Low : Judged → Type 0
 Low Accepted = Prim.Unit {0}
 Low (Rejected class at) = at ≤ 4096
 
@@ -22,7 +21,7 @@ lower : (n : ℕ) → n ≤ 4096 → (j : Judged) → JudgedIn n j → Low j
 lower n l Accepted h = tt
 lower n l (Rejected class at) h = let k = h .1 in omega arith
 
-judge-low : (s : List ℕ) → Low (judge s)
+pub judge-low : (s : List ℕ) → Low (judge s)
 unfolding judge
 judge-low s =
     both (eqb (length s) 0) (λ t. simp t (omega arith))
