@@ -45,7 +45,7 @@ fn say_bytes(bytes: &[u8])
 }
 
 fn say_refusal(why: Refusal) {
-    say_number(leaf::wide(lines::refusal_number(why)));
+    say_number(leaf::wide(packing::number(why)));
 }
 
 // The line is no call.
@@ -137,7 +137,7 @@ fn took_step(outcome: Outcome) -> bool {
         Outcome::Command(n) => true,
         Outcome::Page => true,
         Outcome::Ended => true,
-        Outcome::Refused(why) => lines::refusal_number(why) < 32,
+        Outcome::Refused(why) => packing::number(why) < 32,
     }
 }
 

@@ -1,10 +1,8 @@
-// Lines of the host's protocol: words, hex in either case, decimal numbers, bytes as hex, and the numbers of refusals.
+// Lines of the host's protocol: words, hex in either case, decimal numbers, and bytes as hex.
 use leaf::wide;
-use rules::Refusal;
 ghost use mathlib.Core.Path.{_≡_};
 ghost use Prim.Native.Nat.{_+_, _*_, _≤_, _/_};
 ghost use lib.ListN.{length, drop};
-ghost use Rattle.rules.specs.Numbers.{number};
 ghost use Rattle.io.specs.Counts.{Counts};
 ghost use Rattle.lines.specs.Hex.{digitOf, isHex, isBytes, byteOf, unhexed, numberOf, hexed};
 ghost use Rattle.lines.specs.Hex.{glyph as Hex·glyph};
@@ -20,24 +18,6 @@ pub enum Number {
 pub enum Count {
     Of(usize),
     NoCount,
-}
-
-// The number of a refusal.
-pub fn refusal_number(why: Refusal) -> u8
-    ensures { λ r. ⌜ r ≡ number why ⌝ }
-{
-    match why {
-        Refusal::Syntax => 16,
-        Refusal::Variable => 17,
-        Refusal::Anchor => 17,
-        Refusal::Memory => 18,
-        Refusal::Security => 19,
-        Refusal::Disallowed => 22,
-        Refusal::Buffer => 32,
-        Refusal::Call => 33,
-        Refusal::Response => 34,
-        Refusal::State => 35,
-    }
 }
 
 // The place of the first b from a place on, the length where there is none.

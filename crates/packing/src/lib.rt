@@ -21,7 +21,7 @@ ghost use Rattle.rules.specs.Calls.{told as Calls·told, loaded as Calls·loade
 ghost use Rattle.packing.specs.Packed.{laid, commandLength, packedOutcome, packed};
 
 // The number of a refusal.
-fn number(why: Refusal) -> u8
+pub fn number(why: Refusal) -> u8
     ensures { λ r. ⌜ r ≡ Numbers·number why ⌝ }
 {
     match why {

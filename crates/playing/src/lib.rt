@@ -57,7 +57,7 @@ fn number(outcome: Outcome) -> u8 {
         Outcome::Command(n) => 0,
         Outcome::Page => 0,
         Outcome::Ended => 0,
-        Outcome::Refused(why) => lines::refusal_number(why),
+        Outcome::Refused(why) => packing::number(why),
     }
 }
 
@@ -78,7 +78,7 @@ fn ends(outcome: Outcome) -> bool {
         Outcome::Command(n) => false,
         Outcome::Page => true,
         Outcome::Ended => true,
-        Outcome::Refused(why) => lines::refusal_number(why) < 32,
+        Outcome::Refused(why) => packing::number(why) < 32,
     }
 }
 
@@ -147,7 +147,7 @@ fn load(host: Host, page: &[u8]) -> Host {
             Host { machine, steps }
         }
         Loaded::Unloaded(why) => {
-            say_load(lines::refusal_number(why), page.len());
+            say_load(packing::number(why), page.len());
             Host { machine, steps }
         }
     }
