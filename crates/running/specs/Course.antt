@@ -8,7 +8,7 @@ use Rattle.rules.specs.Calls.{bufferAfter, Counted}
 use Rattle.rules.proofs.StaysCardStep.{Running}
 use Rattle.state.specs.declared.State.{State}
 use Rattle.state.specs.State.{Is, card}
-use Rattle.machine.specs.declared.Gone.{Gone}
+use Rattle.running.specs.declared.Course.{Course}
 
 -- a page runs and awaits no response
 pub record Ready (m : State) : Type 0 where
@@ -17,8 +17,13 @@ pub record Ready (m : State) : Type 0 where
   pub idle : isEmpty (card m .run .hand) ≡ true
 
 -- what a run comes to, with the lent buffer before and after it
-pub record Counts (r : Gone) (before after : List ℕ) (k : Counted) : Type 0 where
+pub record Counts (r : Course) (before after : List ℕ) (k : Counted) : Type 0 where
   pub outcome : r .ran .outcome ≡ k .last .outcome
   pub count : r .ran .count ≡ k .count
-  pub state : Is (r .machine .state) (k .last .card)
+  pub state : Is (r .state) (k .last .card)
   pub buffer : after ≡ bufferAfter before (k .last .card) (k .last .outcome)
+
+-- a state by its parts
+abbrev pub laid : (page : List ℕ) (len : ℕ) (environment temporary permanent trail guard hand wanted : List ℕ) (unit place : ℕ) → State
+laid page len environment temporary permanent trail guard hand wanted unit place =
+    record { page = page; len = len; environment = environment; temporary = temporary; permanent = permanent; trail = trail; guard = guard; hand = hand; wanted = wanted; unit = unit; place = place }

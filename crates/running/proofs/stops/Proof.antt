@@ -1,9 +1,9 @@
--- `machine::stops` meets its contract.
+-- `running::stops` meets its contract.
 -- Assumes nothing.
-use Rattle.machine.proofs.RunLaws.{stops-laws}
+use Rattle.running.proofs.PartLaws.{stops-laws}
 use borrow.Author.Needs.{needs}
-use Rattle.machine.proofs.stops.Statement.{statement}
-use Rattle.machine.proofs.stops.Tie as tie
+use Rattle.running.proofs.stops.Statement.{statement}
+use Rattle.running.proofs.stops.Tie as tie
 
 enum-told : tie.Need-enum-told
 enum-told c = search needs
