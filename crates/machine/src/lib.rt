@@ -222,9 +222,10 @@ impl Machine {
             if is_ready(self.state.len, &self.state.hand) {
                 let unit = self.state.unit;
                 let tag = tag_at(&self.state.page, self.state.len, unit, self.state.place);
-                let moved = stepping::take_step(self.state, out);
-                let next = moved.state;
-                let outcome = moved.outcome;
+                let course = running::take_steps(self.state, 1, out);
+                let next = course.state;
+                let ran = course.ran;
+                let outcome = ran.outcome;
                 return Taken {
                     machine: Machine { state: next },
                     stepped: Stepped { outcome, unit, tag },

@@ -6,25 +6,33 @@ use mathlib.Core.List.{List, [], _∷_}
 use mathlib.Core.Path.{_≡_, refl, sym, ap, _∙_}
 use native.Mathlib.Omega.{arith}
 use lib.ListN.{length, take, set}
-use Rattle.pour.specs.Pour.{blank}
+use lib.Dec.{ltb}
+use borrow.Author.Tests.{le-ltb}
+use Rattle.pour.specs.Pour.{blank, poured}
 use Rattle.rules.specs.declared.Outcome.{Outcome}
 use Rattle.rules.specs.declared.Outcome.the-variants.{On, Command, Page, Ended, Refused}
-use Rattle.rules.specs.declared.Refusal.{Refusal}
+use Rattle.rules.specs.declared.Refusal.the-variants.{Memory}
 use Rattle.rules.specs.declared.Judged.the-variants.{Accepted}
-use Rattle.rules.specs.Numbers.{noError}
-use Rattle.rules.specs.Bytes.{hex, hexTo}
+use Rattle.rules.specs.Numbers.{code, noError}
+use Rattle.rules.specs.Bytes.{part, hex, hexTo}
+use Rattle.rules.specs.Tlvs.{tlvs}
+use Rattle.rules.specs.Pieces.{named}
 use Rattle.rules.specs.Loader.{judge}
 use Rattle.rules.specs.Page.{service, entryOf, keepList, password, bytesOf}
 use Rattle.rules.specs.Card.{Card, Hand, empty, byCode, held, isEmpty, withRun, withHistory, withEnvironment}
 use Rattle.rules.specs.Trail.{left}
+use Rattle.rules.specs.Store.{wrote, noRoom, write}
+use Rattle.rules.specs.Value.{joined, shortest}
+use Rattle.rules.specs.Command.{executeOf, command}
 use Rattle.rules.specs.Keep.{keptBy, guardBy, rested}
-use Rattle.rules.specs.Step.{Effect, effect, marked, placed, entered, leaving, onwards, jump, finish, moved, stepped}
+use Rattle.rules.specs.Step.{effect, marked, placed, entered, leaving, failed, onwards, send, moved, refuses, applied, setAll, decide, stepped}
 use Rattle.rules.specs.Calls.{bufferAfter, Counted, goesOn, steps}
 use Rattle.rules.proofs.StaysCardStep.{Running, card-running, stepped-card, empty-page}
 use Rattle.slots.specs.Slots.{slots, tidySlots}
+use Rattle.records.specs.Records.{tidyRecords}
 use Rattle.trail.specs.Trail.{historyOf, tidyTrail}
-use Rattle.word.specs.Word.{handOf, guardOf, tidyGuard}
-use Rattle.variable.specs.View.{bare, view}
+use Rattle.word.specs.Word.{laidMarked, guardOf, tidyGuard}
+use Rattle.variable.specs.View.{view}
 use Rattle.leaving.specs.Leaving.{entryFor, leftBy}
 use Rattle.leaving.proofs.Accepted.{accepted-service, accepted-password, left-by}
 use Rattle.state.specs.declared.State.{State}
@@ -32,16 +40,18 @@ use Rattle.state.specs.State.{Is, card, runOf, pageOf}
 use Rattle.state.proofs.Canonical.{is-card}
 use Rattle.state.proofs.RestLaws.{rest-is}
 use Rattle.state.proofs.Changes.{new-environment, new-history, new-place}
-use Rattle.storing.proofs.StoreLaws.{view-is}
+use Rattle.storing.proofs.StoreLaws.{view-is, set-done, set-full, length-done, length-full}
 use Rattle.moving.specs.declared.Moved.{Moved}
+use Rattle.moving.specs.Moved.{Comes}
 use Rattle.sending.specs.Sent.{Sends}
+use Rattle.sending.proofs.SendLaws.{send-is, command-is, issue-long}
 use Rattle.stepping.proofs.GoesOn.{stepped-on}
 use Rattle.ways.specs.declared.Way.{Way}
-use Rattle.ways.specs.declared.Way.the-variants.{Enter, Place, End, Otherwise}
-use Rattle.ways.specs.Way.{wayAt, Leads}
-use Rattle.ways.proofs.Steps.{way-leads}
-use Rattle.running.specs.declared.Course.{Course}
-use Rattle.running.specs.Course.{Ready, Counts}
+use Rattle.ways.specs.declared.Way.the-variants.{Enter, Place, End, Store, Length, Send}
+use Rattle.ways.specs.Way.{wayAt, issued, Plans, Inside}
+use Rattle.ways.proofs.Steps.{way-plans}
+use Rattle.ways.proofs.Bounds.{way-inside}
+use Rattle.running.specs.Course.{laid, commandOf, Ready, Counts}
 
 pub ready-served : (m : State) → Ready m → length (service (take (m .len) (m .page))) ≤ 16
 unfolding card runOf pageOf
@@ -85,10 +95,14 @@ idle-hand (byCode b) e = absurd (false≢true e)
 
 -- the state after a step, and the card that it is
 module _ (m : State) (c : Card) (is : Is m c) (environment : List ℕ) (t : tidySlots (m .environment) ≡ true → tidySlots environment ≡ true) where
+  noted-as : (bytes : List ℕ) → slots environment ≡ set (slots (m .environment)) 5 (held 3 bytes) → Is (record { page = m .page; len = m .len; environment = environment; temporary = m .temporary; permanent = m .permanent; trail = m .trail; guard = m .guard; hand = m .hand; wanted = m .wanted; unit = m .unit; place = m .place }) (marked bytes c)
+  unfolding marked
+  noted-as bytes e = new-environment m c is environment _ (rw (is .environment) at e) (t (is .tidyEnvironment))
+
   module _ (e : slots environment ≡ set (slots (m .environment)) 5 (held 3 (0 ∷ 0 ∷ []))) where
     noted : Is (record { page = m .page; len = m .len; environment = environment; temporary = m .temporary; permanent = m .permanent; trail = m .trail; guard = m .guard; hand = m .hand; wanted = m .wanted; unit = m .unit; place = m .place }) (marked noError c)
-    unfolding marked noError hex hexTo
-    noted = new-environment m c is environment _ (rw (is .environment) at e) (t (is .tidyEnvironment))
+    unfolding noError hex hexTo
+    noted = noted-as (0 ∷ 0 ∷ []) e
 
     module _ (idle : c .run .hand ≡ empty) where
       placed-is : (p : ℕ) → Is (record { page = m .page; len = m .len; environment = environment; temporary = m .temporary; permanent = m .permanent; trail = m .trail; guard = m .guard; hand = m .hand; wanted = m .wanted; unit = m .unit; place = p }) (placed (marked noError c) p)
@@ -107,25 +121,23 @@ module _ (m : State) (c : Card) (is : Is m c) (environment : List ℕ) (t : tidy
         entered-is s p k place q =
             rw (← rw (p ∙ is .page) at q) (new-place _ (leaving (marked noError c)) left-is (m .hand) empty k place (is .hand ∙ idle) (is .tidyHeld))
 
-  -- '05' as a byte code that ended the page leaves it, or as it was at a unit's end
-  abbrev ending : Bool → Card
-  ending true = marked noError c
-  ending false = c
+-- the page ends: '05' as a byte code leaves it, the keep rule, and a state at rest
+module _ (m : State) (c : Card) (is : Is m c) (ok : judge (c .run .page) ≡ Accepted) (environment : List ℕ) (t : tidySlots (m .environment) ≡ true → tidySlots environment ≡ true)
+    (temporary : List ℕ) (kept : slots temporary ≡ keptBy (take (m .len) (m .page)) (keepList (take (m .len) (m .page))) (slots (m .temporary))) (u : tidySlots (m .temporary) ≡ true → tidySlots temporary ≡ true)
+    (guard : List ℕ) (guarded : length (bytesOf (take (m .len) (m .page)) (password (take (m .len) (m .page)))) ≤ 16 → guardOf guard ≡ guardBy (take (m .len) (m .page)) (password (take (m .len) (m .page)))) (v : tidyGuard (m .guard) ≡ true → tidyGuard guard ≡ true) where
+  abbrev ended : State
+  ended = laid (blank 4096) 0 environment temporary (m .permanent) (m .trail) guard (blank 257) (m .wanted) 0 0
 
-  ended-is : (done : Bool) → slots environment ≡ cond done (set (slots (m .environment)) 5 (held 3 (0 ∷ 0 ∷ []))) (slots (m .environment)) → Is (record { page = m .page; len = m .len; environment = environment; temporary = m .temporary; permanent = m .permanent; trail = m .trail; guard = m .guard; hand = m .hand; wanted = m .wanted; unit = m .unit; place = m .place }) (ending done)
-  unfolding withEnvironment
-  ended-is true e = noted e
-  ended-is false e = new-environment m c is environment (c .environment) (e ∙ is .environment) (t (is .tidyEnvironment))
+  ended-is : (d : Card) → Is (record { page = m .page; len = m .len; environment = environment; temporary = m .temporary; permanent = m .permanent; trail = m .trail; guard = m .guard; hand = m .hand; wanted = m .wanted; unit = m .unit; place = m .place }) d → d .run .page ≡ c .run .page → Is ended (rested d)
+  ended-is d i e = rest-is _ d i (accepted-password (d .run .page) (rw e ok)) (blank 4096) temporary guard (blank 257) (take (m .len) (m .page)) refl kept u guarded v refl refl
 
-  ending-page : (done : Bool) → ending done .run .page ≡ c .run .page
+  marked-end : (bytes : List ℕ) → slots environment ≡ set (slots (m .environment)) 5 (held 3 bytes) → Is ended (rested (marked bytes c))
   unfolding marked withEnvironment
-  ending-page true = refl
-  ending-page false = refl
+  marked-end bytes e = ended-is (marked bytes c) (noted-as m c is environment t bytes e) refl
 
-  ending-leads : (done : Bool) → Leads c (End done) → stepped c ≡ effect Ended (rested (ending done))
-  unfolding moved
-  ending-leads true x = x
-  ending-leads false x = x
+  unmarked-end : slots environment ≡ slots (m .environment) → Is ended (rested c)
+  unfolding withEnvironment
+  unmarked-end e = ended-is c (new-environment m c is environment (c .environment) (e ∙ is .environment) (t (is .tidyEnvironment))) refl
 
 pub run-out : (n k : ℕ) (m : State) (w : Counted) → steps (n - k) k (card m) ≡ w → Ready m → (before : List ℕ) → n ≤ k → k ≤ n → Counts (record { state = m; ran = record { outcome = On; count = k } }) before before w
 unfolding steps bufferAfter
@@ -186,53 +198,162 @@ module _ (n k : ℕ) (m : State) (w : Counted) (inv : steps (n - k) k (card m) �
   idle : card m .run .hand ≡ empty
   idle = idle-hand (card m .run .hand) (r .idle)
 
+  -- a step that came to a state in place
+  module _ (o : State) (outcome : Outcome) (k′ : Comes (record { state = o; outcome = outcome }) (stepped (card m))) where
+    pub comes-steps : outcome ≡ On → steps (n - (k + 1)) (k + 1) (card o) ≡ w
+    unfolding goesOn
+    comes-steps x = on-steps (rw (← k′ .outcome, x) refl) o (k′ .state)
+
+    pub comes-ready : outcome ≡ On → Ready o
+    unfolding goesOn
+    comes-ready x = on-ready (rw (← k′ .outcome, x) refl) o (k′ .state)
+
+    pub comes-stops : goesOn outcome ≡ false → (before after : List ℕ) → after ≡ bufferAfter before (stepped (card m) .card) (stepped (card m) .outcome) → Counts (record { state = o; ran = record { outcome = outcome; count = k + 1 } }) before after w
+    comes-stops x before after y = stops-at (rw (← k′ .outcome) x) o (k′ .state) outcome (k′ .outcome) before after y
+
   -- a byte code that is done in place
-  module _ (s : List ℕ) (p : s ≡ take (m .len) (m .page)) (way : Way) (e : way ≡ wayAt (view s (m .environment) (m .temporary) (m .permanent)) (m .unit) (m .place)) where
-    leads : Leads (card m) way
-    leads = rw e (way-leads (card m) s (m .environment) (m .temporary) (m .permanent) (m .unit) (m .place) (view-is m (card m) (r .is) s p) (sym (r .is .unit)) (sym (r .is .place)))
+  module _ (way : Way) (e : way ≡ wayAt (view (take (m .len) (m .page)) (m .environment) (m .temporary) (m .permanent)) (m .unit) (m .place)) where
+    plans : Plans (card m) (decide (card m)) way
+    plans = rw e (way-plans (card m) (take (m .len) (m .page)) (m .environment) (m .temporary) (m .permanent) (m .unit) (m .place) (view-is m (card m) (r .is) (take (m .len) (m .page)) refl) (sym (r .is .unit)) (sym (r .is .place)))
+
+    inside : Inside (length (take (m .len) (m .page))) way
+    inside = rw e (way-inside (take (m .len) (m .page)) (m .environment) (m .temporary) (m .permanent) (m .unit) (m .place))
 
     module _ (environment : List ℕ) (t : tidySlots (m .environment) ≡ true → tidySlots environment ≡ true) where
       module _ (a : slots environment ≡ set (slots (m .environment)) 5 (held 3 (0 ∷ 0 ∷ []))) where
         module _ (q : ℕ) (x : way ≡ Place q) where
-          placing : stepped (card m) ≡ effect On (placed (marked noError (card m)) q)
-          unfolding moved
-          placing = rw x at leads
+          placing : Comes (record { state = record { page = m .page; len = m .len; environment = environment; temporary = m .temporary; permanent = m .permanent; trail = m .trail; guard = m .guard; hand = m .hand; wanted = m .wanted; unit = m .unit; place = q }; outcome = On }) (stepped (card m))
+          unfolding stepped applied moved
+          placing = rw (rw x at plans) (record { outcome = refl; state = placed-is m (card m) (r .is) environment t a idle q })
 
           pub place-steps : steps (n - (k + 1)) (k + 1) (card (record { page = m .page; len = m .len; environment = environment; temporary = m .temporary; permanent = m .permanent; trail = m .trail; guard = m .guard; hand = m .hand; wanted = m .wanted; unit = m .unit; place = q })) ≡ w
-          unfolding goesOn
-          place-steps = on-steps (rw placing refl) _ (rw placing (placed-is m (card m) (r .is) environment t a idle q))
+          place-steps = comes-steps _ On placing refl
 
           pub place-ready : Ready (record { page = m .page; len = m .len; environment = environment; temporary = m .temporary; permanent = m .permanent; trail = m .trail; guard = m .guard; hand = m .hand; wanted = m .wanted; unit = m .unit; place = q })
-          unfolding goesOn
-          place-ready = on-ready (rw placing refl) _ (rw placing (placed-is m (card m) (r .is) environment t a idle q))
+          place-ready = comes-ready _ On placing refl
 
         module _ (u : ℕ) (x : way ≡ Enter u) (trail : List ℕ) (b : judge (take (m .len) (m .page)) ≡ Accepted → historyOf trail ≡ leftBy (entryFor (take (m .len) (m .page)) (m .unit)) (historyOf (m .trail))) (v : tidyTrail (m .trail) ≡ true → tidyTrail trail ≡ true)
-            (s′ : List ℕ) (p′ : s′ ≡ take (m .len) (m .page)) (place : ℕ) (y : place ≡ entryOf s′ u) where
-          entering : stepped (card m) ≡ effect On (entered (leaving (marked noError (card m))) u)
-          unfolding moved
-          entering = rw x at leads
-
-          entry : Is (record { page = m .page; len = m .len; environment = environment; temporary = m .temporary; permanent = m .permanent; trail = trail; guard = m .guard; hand = m .hand; wanted = m .wanted; unit = u; place = place }) (stepped (card m) .card)
-          entry = rw entering (entered-is m (card m) (r .is) environment t a idle (r .runs .accepted) trail b v s′ p′ u place y)
+            (s : List ℕ) (p : s ≡ take (m .len) (m .page)) (place : ℕ) (y : place ≡ entryOf s u) where
+          entering : Comes (record { state = record { page = m .page; len = m .len; environment = environment; temporary = m .temporary; permanent = m .permanent; trail = trail; guard = m .guard; hand = m .hand; wanted = m .wanted; unit = u; place = place }; outcome = On }) (stepped (card m))
+          unfolding stepped applied moved
+          entering = rw (rw x at plans) (record { outcome = refl; state = entered-is m (card m) (r .is) environment t a idle (r .runs .accepted) trail b v s p u place y })
 
           pub enter-steps : steps (n - (k + 1)) (k + 1) (card (record { page = m .page; len = m .len; environment = environment; temporary = m .temporary; permanent = m .permanent; trail = trail; guard = m .guard; hand = m .hand; wanted = m .wanted; unit = u; place = place })) ≡ w
-          unfolding goesOn
-          enter-steps = on-steps (rw entering refl) _ entry
+          enter-steps = comes-steps _ On entering refl
 
           pub enter-ready : Ready (record { page = m .page; len = m .len; environment = environment; temporary = m .temporary; permanent = m .permanent; trail = trail; guard = m .guard; hand = m .hand; wanted = m .wanted; unit = u; place = place })
-          unfolding goesOn
-          enter-ready = on-ready (rw entering refl) _ entry
+          enter-ready = comes-ready _ On entering refl
 
-      module _ (done : Bool) (x : way ≡ End done) (a : slots environment ≡ cond done (set (slots (m .environment)) 5 (held 3 (0 ∷ 0 ∷ []))) (slots (m .environment))) where
-        pub end-counts : (s₁ temporary : List ℕ) → s₁ ≡ take (m .len) (m .page) → slots temporary ≡ keptBy s₁ (keepList s₁) (slots (m .temporary)) → (tidySlots (m .temporary) ≡ true → tidySlots temporary ≡ true)
-            → (s₂ guard : List ℕ) → s₂ ≡ take (m .len) (m .page) → (length (bytesOf s₂ (password s₂)) ≤ 16 → guardOf guard ≡ guardBy s₂ (password s₂)) → (tidyGuard (m .guard) ≡ true → tidyGuard guard ≡ true)
-            → (before : List ℕ) → Counts (record { state = record { page = blank 4096; len = 0; environment = environment; temporary = temporary; permanent = m .permanent; trail = m .trail; guard = guard; hand = blank 257; wanted = m .wanted; unit = 0; place = 0 }; ran = record { outcome = Ended; count = k + 1 } }) before before w
+        -- the areas are written, and the step goes on
+        module _ (temporary permanent : List ℕ) (i : tidySlots (m .temporary) ≡ true → tidySlots temporary ≡ true) (j : tidyRecords (m .permanent) ≡ true → tidyRecords permanent ≡ true) (b : Bool) (z : b ≡ true) (s : List ℕ) (p : s ≡ take (m .len) (m .page)) where
+          written : (stop : ℕ) (d : Card) → Is (record { page = m .page; len = m .len; environment = m .environment; temporary = temporary; permanent = permanent; trail = m .trail; guard = m .guard; hand = m .hand; wanted = m .wanted; unit = m .unit; place = m .place }) d → Comes (record { state = record { page = m .page; len = m .len; environment = environment; temporary = temporary; permanent = permanent; trail = m .trail; guard = m .guard; hand = m .hand; wanted = m .wanted; unit = m .unit; place = stop }; outcome = On }) (moved d (onwards stop))
+          unfolding moved
+          written stop d is = record { outcome = refl; state = placed-is _ d is environment t a (sym (is .hand) ∙ (r .is .hand ∙ idle)) stop }
+
+          module _ (start stop : ℕ) (x : way ≡ Store start stop) (f : setAll (tlvs 1 s start stop) (view s (m .environment) (m .temporary) (m .permanent)) ≡ cond b (wrote (view s (m .environment) temporary permanent)) noRoom) where
+            stored : Comes (record { state = record { page = m .page; len = m .len; environment = environment; temporary = temporary; permanent = permanent; trail = m .trail; guard = m .guard; hand = m .hand; wanted = m .wanted; unit = m .unit; place = stop }; outcome = On }) (stepped (card m))
+            unfolding stepped
+            stored = rw (rw x at plans) (set-done m (card m) (r .is) s p (r .runs .accepted) b temporary permanent _ start stop f z i j (written stop))
+
+            pub store-steps : steps (n - (k + 1)) (k + 1) (card (record { page = m .page; len = m .len; environment = environment; temporary = temporary; permanent = permanent; trail = m .trail; guard = m .guard; hand = m .hand; wanted = m .wanted; unit = m .unit; place = stop })) ≡ w
+            store-steps = comes-steps _ On stored refl
+
+            pub store-ready : Ready (record { page = m .page; len = m .len; environment = environment; temporary = temporary; permanent = permanent; trail = m .trail; guard = m .guard; hand = m .hand; wanted = m .wanted; unit = m .unit; place = stop })
+            store-ready = comes-ready _ On stored refl
+
+          module _ (number from to stop : ℕ) (x : way ≡ Length number from to stop) (f : write (view s (m .environment) (m .temporary) (m .permanent)) number 3 (shortest (length (joined (view s (m .environment) (m .temporary) (m .permanent)) (named (part s from to))))) ≡ cond b (wrote (view s (m .environment) temporary permanent)) noRoom) where
+            counted : Comes (record { state = record { page = m .page; len = m .len; environment = environment; temporary = temporary; permanent = permanent; trail = m .trail; guard = m .guard; hand = m .hand; wanted = m .wanted; unit = m .unit; place = stop }; outcome = On }) (stepped (card m))
+            unfolding stepped
+            counted = rw (rw x at plans) (length-done m (card m) (r .is) s p (r .runs .accepted) b temporary permanent _ number from to stop f z i j (written stop))
+
+            pub length-steps : steps (n - (k + 1)) (k + 1) (card (record { page = m .page; len = m .len; environment = environment; temporary = temporary; permanent = permanent; trail = m .trail; guard = m .guard; hand = m .hand; wanted = m .wanted; unit = m .unit; place = stop })) ≡ w
+            length-steps = comes-steps _ On counted refl
+
+            pub length-ready : Ready (record { page = m .page; len = m .len; environment = environment; temporary = temporary; permanent = permanent; trail = m .trail; guard = m .guard; hand = m .hand; wanted = m .wanted; unit = m .unit; place = stop })
+            length-ready = comes-ready _ On counted refl
+
+      -- the page ends, by its own or because there is no room
+      module _ (temporary : List ℕ) (kept : slots temporary ≡ keptBy (take (m .len) (m .page)) (keepList (take (m .len) (m .page))) (slots (m .temporary))) (u : tidySlots (m .temporary) ≡ true → tidySlots temporary ≡ true)
+          (guard : List ℕ) (guarded : length (bytesOf (take (m .len) (m .page)) (password (take (m .len) (m .page)))) ≤ 16 → guardOf guard ≡ guardBy (take (m .len) (m .page)) (password (take (m .len) (m .page)))) (v : tidyGuard (m .guard) ≡ true → tidyGuard guard ≡ true)
+          (o : State) (at : o ≡ laid (blank 4096) 0 environment temporary (m .permanent) (m .trail) guard (blank 257) (m .wanted) 0 0) (before : List ℕ) where
+        marks : (bytes : List ℕ) → slots environment ≡ set (slots (m .environment)) 5 (held 3 bytes) → Is o (rested (marked bytes (card m)))
+        marks bytes a = rw at (marked-end m (card m) (r .is) (r .runs .accepted) environment t temporary kept u guard guarded v bytes a)
+
+        done-by : (done : Bool) → way ≡ End done → slots environment ≡ cond done (set (slots (m .environment)) 5 (held 3 (0 ∷ 0 ∷ []))) (slots (m .environment)) → Comes (record { state = o; outcome = Ended }) (stepped (card m))
+        unfolding stepped applied moved noError hex hexTo
+        done-by true x a = rw (rw x at plans) (record { outcome = refl; state = marks (0 ∷ 0 ∷ []) a })
+        done-by false x a = rw (rw x at plans) (record { outcome = refl; state = rw at (unmarked-end m (card m) (r .is) (r .runs .accepted) environment t temporary kept u guard guarded v a) })
+
+        pub end-counts : (done : Bool) → way ≡ End done → slots environment ≡ cond done (set (slots (m .environment)) 5 (held 3 (0 ∷ 0 ∷ []))) (slots (m .environment)) → Counts (record { state = o; ran = record { outcome = Ended; count = k + 1 } }) before before w
         unfolding goesOn bufferAfter
-        end-counts s₁ temporary p₁ kept kept-tidy s₂ guard p₂ guarded guarded-tidy before =
-            let c = ending m (card m) (r .is) environment t done in
-            let z : stepped (card m) ≡ effect Ended (rested c) = ending-leads m (card m) (r .is) environment t done (rw x at leads) in
-            let short = accepted-password (c .run .page) (rw (ending-page m (card m) (r .is) environment t done) (r .runs .accepted)) in
-            let f = rest-is _ c (ended-is m (card m) (r .is) environment t done a) short (blank 4096) temporary guard (blank 257) s₁ p₁ kept kept-tidy (rw (p₂ ∙ sym p₁) at guarded) guarded-tidy refl refl in
-            stops-at (rw z refl) _ (rw z f) Ended (rw z refl) before before (rw z refl)
+        end-counts done x a = let z = done-by done x a in comes-stops o Ended z refl before before (rw (← z .outcome) refl)
+
+        module _ (a : slots environment ≡ set (slots (m .environment)) 5 (held 3 (code Memory))) where
+          full : Comes (record { state = o; outcome = Refused Memory }) (applied (card m) (refuses Memory))
+          unfolding applied failed
+          full = record { outcome = refl; state = marks (code Memory) a }
+
+          full-for : (d : Card) → Is m d → judge (d .run .page) ≡ Accepted → Comes (record { state = o; outcome = Refused Memory }) (applied d (refuses Memory))
+          full-for d is ok = rw (← is-card m d is) full
+
+          full-counts : Comes (record { state = o; outcome = Refused Memory }) (stepped (card m)) → Counts (record { state = o; ran = record { outcome = Refused Memory; count = k + 1 } }) before before w
+          unfolding goesOn bufferAfter
+          full-counts z = comes-stops o (Refused Memory) z refl before before (rw (← z .outcome) refl)
+
+          module _ (b : Bool) (z : b ≡ false) (s : List ℕ) (p : s ≡ take (m .len) (m .page)) (t′ q′ : List ℕ) where
+            pub store-full : (start stop : ℕ) → way ≡ Store start stop → setAll (tlvs 1 s start stop) (view s (m .environment) (m .temporary) (m .permanent)) ≡ cond b (wrote (view s (m .environment) t′ q′)) noRoom → Counts (record { state = o; ran = record { outcome = Refused Memory; count = k + 1 } }) before before w
+            unfolding stepped
+            store-full start stop x f = full-counts (rw (rw x at plans) (set-full m (card m) (r .is) s p (r .runs .accepted) b t′ q′ _ start stop f z full-for))
+
+            pub length-full-counts : (number from to stop : ℕ) → way ≡ Length number from to stop → write (view s (m .environment) (m .temporary) (m .permanent)) number 3 (shortest (length (joined (view s (m .environment) (m .temporary) (m .permanent)) (named (part s from to))))) ≡ cond b (wrote (view s (m .environment) t′ q′)) noRoom → Counts (record { state = o; ran = record { outcome = Refused Memory; count = k + 1 } }) before before w
+            unfolding stepped
+            length-full-counts number from to stop x f = full-counts (rw (rw x at plans) (length-full m (card m) (r .is) s p (r .runs .accepted) b t′ q′ _ number from to stop f z full-for))
+
+          pub send-full : (tag start stop number : ℕ) → way ≡ Send tag start stop → number ≡ length (commandOf (take (m .len) (m .page)) (m .environment) (m .temporary) (m .permanent) tag start stop) → 255 < number → Counts (record { state = o; ran = record { outcome = Refused Memory; count = k + 1 } }) before before w
+          unfolding stepped issued
+          send-full tag start stop number x f l = full-counts (rw (rw x at plans) (issue-long m (card m) (r .is) (r .runs .accepted) tag start stop before _ (take (m .len) (m .page)) refl number f l full-for .comes))
+
+    -- the command goes out
+    module _ (tag start stop number : ℕ) (x : way ≡ Send tag start stop) (f : number ≡ length (commandOf (take (m .len) (m .page)) (m .environment) (m .temporary) (m .permanent) tag start stop)) (l : number ≤ 255) (hand before after : List ℕ)
+        (g : hand ≡ laidMarked 257 (commandOf (take (m .len) (m .page)) (m .environment) (m .temporary) (m .permanent) tag start stop)) (y : after ≡ poured before 0 (commandOf (take (m .len) (m .page)) (m .environment) (m .temporary) (m .permanent) tag start stop)) where
+      abbrev text : List ℕ
+      text = commandOf (take (m .len) (m .page)) (m .environment) (m .temporary) (m .permanent) tag start stop
+
+      abbrev gone-out : State
+      gone-out = record { page = m .page; len = m .len; environment = m .environment; temporary = m .temporary; permanent = m .permanent; trail = m .trail; guard = m .guard; hand = hand; wanted = m .wanted; unit = m .unit; place = m .place }
+
+      sends : Sends (record { state = gone-out; outcome = Command (length text) }) before after (moved (card m) (send text))
+      sends = send-is m (card m) (r .is) text hand before after (rw (← f) l) g y
+
+      sending : stepped (card m) ≡ moved (card m) (send text)
+      unfolding stepped applied issued
+      sending =
+          let v : text ≡ command (card m) (executeOf (card m .run .page) tag start stop) = command-is m (card m) (r .is) (r .runs .accepted) tag start stop before (record { state = gone-out; outcome = On }) (take (m .len) (m .page)) refl in
+          let short : ltb 255 (length (command (card m) (executeOf (card m .run .page) tag start stop))) ≡ false = rw (← v, ← f) (le-ltb _ _ l) in
+          rw (rw x at plans, short, ← v) refl
+
+      pub send-counts : Counts (record { state = gone-out; ran = record { outcome = Command number; count = k + 1 } }) before after w
+      unfolding goesOn
+      send-counts = comes-stops gone-out (Command number) (rw (sending, f) (sends .comes)) refl before after (rw sending (sends .buffer))
+
+    -- the places that a way names lie in the page
+    module _ (s : List ℕ) (p : s ≡ take (m .len) (m .page)) (start stop : ℕ) where
+      pub store-ordered : way ≡ Store start stop → start ≤ stop
+      store-ordered x = (rw x at inside) .0
+
+      pub store-within : way ≡ Store start stop → stop ≤ length s
+      store-within x = rw p ((rw x at inside) .1)
+
+      pub send-ordered : (tag : ℕ) → way ≡ Send tag start stop → start ≤ stop
+      send-ordered tag x = (rw x at inside) .0
+
+      pub send-within : (tag : ℕ) → way ≡ Send tag start stop → stop ≤ length s
+      send-within tag x = rw p ((rw x at inside) .1)
+
+      pub length-within : (number next : ℕ) → way ≡ Length number start stop next → stop ≤ length s
+      length-within number next x = rw p (rw x at inside)
+
+pub served : (m : State) → Ready m → (s : List ℕ) → s ≡ take (m .len) (m .page) → length (service s) ≤ 16
+served m r s p = rw p (ready-served m r)
 
 pub ruleset loop-laws = (steps-start, ready-served)

@@ -4,8 +4,10 @@ use mathlib.Core.Bool.{true}
 use mathlib.Core.Path.{_≡_}
 use mathlib.Core.List.{List}
 use Rattle.rules.specs.Card.{isEmpty}
+use Rattle.rules.specs.Command.{executeOf, command}
 use Rattle.rules.specs.Calls.{bufferAfter, Counted}
 use Rattle.rules.proofs.StaysCardStep.{Running}
+use Rattle.variable.specs.View.{view}
 use Rattle.state.specs.declared.State.{State}
 use Rattle.state.specs.State.{Is, card}
 use Rattle.running.specs.declared.Course.{Course}
@@ -27,3 +29,7 @@ pub record Counts (r : Course) (before after : List ℕ) (k : Counted) : Type 0 
 abbrev pub laid : (page : List ℕ) (len : ℕ) (environment temporary permanent trail guard hand wanted : List ℕ) (unit place : ℕ) → State
 laid page len environment temporary permanent trail guard hand wanted unit place =
     record { page = page; len = len; environment = environment; temporary = temporary; permanent = permanent; trail = trail; guard = guard; hand = hand; wanted = wanted; unit = unit; place = place }
+
+-- the command of an Execute USAT Command, by what is lent
+abbrev pub commandOf : (page env temp perm : List ℕ) (tag start stop : ℕ) → List ℕ
+commandOf page env temp perm tag start stop = command (view page env temp perm) (executeOf page tag start stop)

@@ -5,6 +5,9 @@ use borrow.Author.Needs.{needs}
 use Rattle.ways.proofs.way_at.Statement.{statement}
 use Rattle.ways.proofs.way_at.Tie as tie
 
+page-of-requires : tie.Need-page-of-requires
+page-of-requires c κs = search needs
+
 code-at-requires : tie.Need-code-at-requires
 code-at-requires c κs = search needs
 
@@ -17,31 +20,20 @@ enum-told c = search needs
 returns : tie.Need-returns
 returns c = search (needs, at-laws)
 
-branch-way-requires : tie.Need-branch-way-requires
-branch-way-requires c κs = search (needs, at-laws)
+code-way-requires : tie.Need-code-way-requires
+code-way-requires c κs = search (needs, at-laws)
 
 returns-2 : tie.Need-returns-2
 returns-2 c = search (needs, at-laws)
-
-exit-way-requires : tie.Need-exit-way-requires
-exit-way-requires c κs = search (needs, at-laws)
-
-returns-3 : tie.Need-returns-3
-returns-3 c = search (needs, at-laws)
-
-returns-4 : tie.Need-returns-4
-returns-4 c = search (needs, at-laws)
 
 pub way-at-spec : {M : Type 1} → statement M
 way-at-spec =
     tie.close
     (tie.spec
+    page-of-requires
     code-at-requires
     enum-known-tag
     enum-told
     returns
-    branch-way-requires
-    returns-2
-    exit-way-requires
-    returns-3
-    returns-4)
+    code-way-requires
+    returns-2)
