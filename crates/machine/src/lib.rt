@@ -252,10 +252,10 @@ impl Machine {
         if sound::is_sound(self.state) {
             if is_ready(self.state.len, &self.state.hand) {
                 let course = running::take_steps(self.state, most, out);
-                let next = course.state;
+                let last = course.state;
                 let ran = course.ran;
                 return Gone {
-                    machine: Machine { state: next },
+                    machine: Machine { state: last },
                     ran,
                 };
             }
