@@ -1,30 +1,34 @@
--- Where `clean_look` and `clean` find nothing, no class from 4 on does, in the shape of their needs.
+-- Where `settled_look`, `clean_look` and `clean` find nothing, no class from 3 on does, in the shape of their needs.
 -- Assumes nothing.
 use Prim.Native.Nat.{ℕ, _+_, _-_, _≤_, _<_, _%_}
 use mathlib.Core.Bool.{Bool, true, false, cond, not}
 use mathlib.Core.List.{List}
 use mathlib.Core.Path.{_≡_, refl, sym, subst, ap, _∙_}
 use native.Mathlib.Omega.{arith}
-use lib.Dec.{eqb, ltb}
-use borrow.Author.Tests.{lt-leb, eq-eqb, ne-eqb, eqb-true, eqb-false, ltb-true}
+use lib.Dec.{eqb, ltb, leb}
+use borrow.Author.Tests.{le-ltb, lt-leb, eq-eqb, ne-eqb, eqb-true, eqb-false, ltb-true, leb-true}
 use Rattle.rules.specs.declared.Head.{Head}
 use Rattle.rules.specs.declared.Head.the-variants.{Tlv}
+use Rattle.rules.specs.declared.Body.{Body}
+use Rattle.rules.specs.declared.Body.the-variants.{Inner, Leaf}
 use Rattle.rules.specs.declared.Look.{Look}
 use Rattle.rules.specs.declared.Look.the-variants.{Fault, Over, Into}
+use Rattle.rules.specs.declared.Found.{Found}
 use Rattle.rules.specs.declared.Found.the-variants.{Fine}
 use Rattle.rules.specs.Tlv.{headAt}
 use Rattle.rules.specs.Tlvs.{tlvs, plain, count}
-use Rattle.rules.specs.Grammar.{cellOf, gapOf, lacks, unitKind}
+use Rattle.rules.specs.Grammar.{cellOf, gapOf, lacks, unitKind, commandKind}
 use Rattle.rules.specs.Shape.{bodyOf}
 use Rattle.rules.specs.Page.{pageRow}
 use Rattle.rules.specs.Forms.{badAnchor, crowded}
-use Rattle.rules.specs.Loader.{judgedLook, look, orThen, floor, lacking, goes, rowFault, walk}
+use Rattle.rules.specs.Loader.{shapeLook, judgedLook, look, orThen, floor, lacking, goes, rowFault, walk}
 use Rattle.leaf.proofs.Cases.{both}
 use Rattle.tlv.proofs.Bounds.{head-tlv}
 use Rattle.tlv.proofs.Rows.{tlvs-tlv}
+use Rattle.shape.proofs.BodyLaws.{body-inner}
 use Rattle.forms.specs.Sound.{Seen}
 use Rattle.forms.proofs.NameLaws.{anchor-none, crowded-none}
-use Rattle.loader.specs.Clean.{Admitted, Agreed, FreshHead, Fresh, Known, Clean}
+use Rattle.loader.specs.Clean.{Admitted, Shaped, Settled, Agreed, FreshHead, Fresh, Known, Clean}
 use Rattle.loader.proofs.LookLaws.{look-into}
 use Rattle.loader.proofs.WalkLaws.{Left, w-floor, w-start, w-done}
 use Rattle.loader.proofs.Front.{Counted, counted-none, counted-here, counted-on}
@@ -80,15 +84,41 @@ module _ (left counted tag : ℕ) where
 
 pub ruleset after-laws = (after-none, after-one, after-other)
 
-module _ (s : List ℕ) (within anchor gap units modifiers last cell at tag start stop : ℕ) where
-  pub agreed-fault : (Fault ≡ Fault → ⊥) → Agreed s within anchor gap units modifiers last cell at tag start stop Fault
+module _ (s : List ℕ) (within at tag start stop below : ℕ) where
+  pub settled-fault : (Fault ≡ Fault → ⊥) → Settled s within at tag start stop below Fault
+  settled-fault n = absurd (n refl)
+
+  module _ (b : Body) (e : b ≡ bodyOf s within tag start stop) where
+    pub settled-leaf : b ≡ Leaf → (Over ≡ Fault → ⊥) → Settled s within at tag start stop below Over
+    unfolding Settled shapeLook judgedLook goes
+    settled-leaf x n = let y : bodyOf s within tag start stop ≡ Leaf = sym e ∙ x in (simp y, λ rest. simp y)
+
+    module _ (kind p : ℕ) (x : b ≡ Inner kind p) where
+      inner : bodyOf s within tag start stop ≡ Inner kind p
+      inner = sym e ∙ x
+
+      pub settled-in : start ≤ stop → p ≤ stop
+      settled-in h = body-inner s within tag start stop h inner
+
+      pub settled-command : kind ≡ commandKind → (r : Found) → r ≡ walk below s 3 kind at p stop → r ≡ Fine → (Over ≡ Fault → ⊥) → Settled s within at tag start stop below Over
+      unfolding Settled shapeLook judgedLook goes orThen
+      settled-command k r re rx n = (simp (inner, eq-eqb kind commandKind k), λ rest. simp (inner, sym re ∙ rx))
+
+      pub settled-inner : (kind ≡ commandKind → ⊥) → (Into kind p ≡ Fault → ⊥) → Settled s within at tag start stop below (Into kind p)
+      unfolding Settled shapeLook judgedLook
+      settled-inner k n = (simp (inner, ne-eqb kind commandKind k), λ rest. simp inner)
+
+pub ruleset settled-laws = (settled-fault, settled-leaf, settled-in, settled-command, settled-inner)
+
+module _ (s : List ℕ) (within anchor gap units modifiers last cell at tag start stop below : ℕ) where
+  pub agreed-fault : (Fault ≡ Fault → ⊥) → Agreed s within anchor gap units modifiers last cell at tag start stop below Fault
   agreed-fault n = absurd (n refl)
 
   pub agreed : (a : Bool) → (a ≡ true → Admitted anchor gap units modifiers at tag) → a ≡ true
       → (b : Bool) → (b ≡ true → Seen s within last cell at tag start stop (judgedLook (bodyOf s within tag start stop))) → b ≡ true
-      → (r : Look) → r ≡ judgedLook (bodyOf s within tag start stop) → (r ≡ Fault → ⊥) → Agreed s within anchor gap units modifiers last cell at tag start stop r
-  unfolding Agreed
-  agreed a ae ax b be bx r re n = (ae ax, λ class from c five six. be bx class from c five six ∙ sym re)
+      → (r : Look) → ((r ≡ Fault → ⊥) → Settled s within at tag start stop below r) → (r ≡ Fault → ⊥) → Agreed s within anchor gap units modifiers last cell at tag start stop below r
+  unfolding Agreed Settled
+  agreed a ae ax b be bx r re n = (ae ax, λ class from c five six. be bx class from c five six ∙ sym (re n .0), re n .1)
 
 pub ruleset agreed-laws = (agreed-fault, agreed)
 
@@ -104,11 +134,24 @@ pub into-not : (l : Look) (kind p : ℕ) → l ≡ Into kind p → l ≡ Fault �
 into-not l kind p x f = subst IsFault (sym f ∙ x) tt
 
 -- what is gone into begins before the value's end
-pub agreed-in : (s : List ℕ) (within anchor gap units modifiers last cell at tag start stop : ℕ) (l : Look)
-    → ((l ≡ Fault → ⊥) → Agreed s within anchor gap units modifiers last cell at tag start stop l) → (kind p : ℕ) → l ≡ Into kind p → start ≤ stop → p ≤ stop
+pub agreed-in : (s : List ℕ) (within anchor gap units modifiers last cell at tag start stop below : ℕ) (l : Look)
+    → ((l ≡ Fault → ⊥) → Agreed s within anchor gap units modifiers last cell at tag start stop below l) → (kind p : ℕ) → l ≡ Into kind p → start ≤ stop → p ≤ stop
 unfolding Agreed
-agreed-in s within anchor gap units modifiers last cell at tag start stop l ag kind p x h =
+agreed-in s within anchor gap units modifiers last cell at tag start stop below l ag kind p x h =
     look-into s 8 within last cell 0 at tag start stop h (ag (into-not l kind p x) .1 8 0 (omega arith) (λ q. let no : ⊥ = omega arith in absurd no) (λ q. let no : ⊥ = omega arith in absurd no) ∙ x)
+
+-- where class 3 comes to the same as the others see, each class does
+pub goes-same : (s : List ℕ) (within last cell from at tag start stop below : ℕ) (l : Look) (class : ℕ) → 3 ≤ class → Shaped s within at tag start stop below l
+    → (4 ≤ class → look s class within last cell from at tag start stop ≡ l) → (rest : Found)
+    → goes (λ k o p e. walk below s class k o p e) at stop rest (look s class within last cell from at tag start stop) ≡ goes (λ k o p e. walk below s class k o p e) at stop rest l
+unfolding look
+goes-same s within last cell from at tag start stop below l class c three four rest =
+    both (eqb class 3)
+    (λ t. subst
+    (λ (m : ℕ). goes (λ k o p e. walk below s m k o p e) at stop rest (look s m within last cell from at tag start stop) ≡ goes (λ k o p e. walk below s m k o p e) at stop rest l)
+    (sym (eqb-true class 3 t))
+    (three rest))
+    (λ t. let d = eqb-false class 3 t in ap (goes (λ k o p e. walk below s class k o p e) at stop rest) (four (omega arith)))
 
 -- with fewer than 32 modifiers before it, those of the page counted too, one is not too many
 few : (s : List ℕ) (within from at tag n : ℕ) → (tag % 128 ≡ 0x0A → ⊥) → tag % 128 ≡ 0x08 → count 0x08 (tlvs 0 s from at) ≡ n → n + count 0x08 (pageRow s) < 32 → crowded s within from at tag ≡ false
@@ -121,11 +164,11 @@ few s within from at tag n t u e h =
 -- what is left of a row comes to what the row comes to, for each class
 unfoldable pub Rest : List ℕ → ℕ → ℕ → ℕ → ℕ → ℕ → ℕ → ℕ → ℕ → ℕ → Type 0
 Rest s within anchor room from gap end left at last =
-    (class own : ℕ) → 4 ≤ class → Known s class anchor room end → Left s class within from gap end left at last (walk left s class within own from end)
+    (class own : ℕ) → 3 ≤ class → Known s class anchor room end → Left s class within from gap end left at last (walk left s class within own from end)
 
-floor-none : (class within from end : ℕ) → 4 ≤ class → Fine ≡ floor class within from end
+floor-none : (class within from end : ℕ) → end - from ≤ gapOf within → Fine ≡ floor class within from end
 unfolding floor
-floor-none class within from end c = simp (ne-eqb class 3 (λ e. omega arith))
+floor-none class within from end h = both (eqb class 3) (λ t. simp (t, le-ltb (gapOf within) (end - from) h)) (λ t. simp t)
 
 pub lack-none : (s : List ℕ) (class within from end : ℕ) (b : Bool) → b ≡ lacks within end (tlvs (gapOf within) s from end) → b ≡ false
     → false ≡ lacking class within end (tlvs (gapOf within) s from end)
@@ -137,9 +180,9 @@ unfolding Known
 known-below s class anchor room end stop k = (λ q h. let no : ⊥ = omega arith in absurd no, λ q. let y = k .1 q in omega arith)
 
 module _ (s : List ℕ) (within anchor room from end left : ℕ) where
-  pub c-floor : left ≡ 0 → true ≡ true → Clean s within anchor room from end left
+  pub c-floor : left ≡ 0 → (gap : ℕ) → gap ≡ gapOf within → leb (end - from) gap ≡ true → Clean s within anchor room from end left
   unfolding Clean
-  c-floor z x class own c k = sym (w-floor s class within own from end left z Fine (floor-none class within from end c))
+  c-floor z gap g x class own c k = let h = leb-true (end - from) gap x in sym (w-floor s class within own from end left z Fine (floor-none class within from end (omega (arith, g))))
 
   pub c-start : (left ≡ 0 → ⊥) → (b : Bool) → b ≡ lacks within end (tlvs (gapOf within) s from end) → b ≡ false → (gap : ℕ) → gap ≡ gapOf within
       → Rest s within anchor room from gap end left from 0
@@ -158,7 +201,7 @@ module _ (s : List ℕ) (within anchor room from gap end left at last modifiers 
     pub c-within : stop ≤ end
     c-within = let b = head-tlv s (at + gap) end (sym is ∙ e) in omega arith
 
-    module _ (cell : ℕ) (ce : cell ≡ cellOf within t) (l : Look) (ag : (l ≡ Fault → ⊥) → Agreed s within anchor gap 0 modifiers last cell (at + gap) t start stop l) (n : l ≡ Fault → ⊥) where
+    module _ (cell : ℕ) (ce : cell ≡ cellOf within t) (l : Look) (ag : (l ≡ Fault → ⊥) → Agreed s within anchor gap 0 modifiers last cell (at + gap) t start stop (left - 1) l) (n : l ≡ Fault → ⊥) where
       admitted : Admitted anchor gap 0 modifiers (at + gap) t
       unfolding Agreed
       admitted = ag n .0
@@ -190,17 +233,26 @@ module _ (s : List ℕ) (within anchor room from gap end left at last modifiers 
       unfolding Agreed
       same class c k = ag n .1 class from c (λ q. anchored class k q) (λ q. uncrowded class k q)
 
-      on : (class : ℕ) → 4 ≤ class → Known s class anchor room end
+      shaped : Shaped s within (at + gap) t start stop (left - 1) l
+      unfolding Agreed
+      shaped = ag n .2
+
+      here : (class : ℕ) → rowFault s class (λ k o p e. walk (left - 1) s class k o p e) within from last (tlvs gap s at end)
+          ≡ goes (λ k o p e. walk (left - 1) s class k o p e) (at + gap) stop (rowFault s class (λ k o p e. walk (left - 1) s class k o p e) within from cell (tlvs gap s stop end))
+          (look s class within last cell from (at + gap) t start stop)
+      unfolding rowFault
+      here class = simp (tlvs-tlv gap s at end go (sym is ∙ e), sym ce)
+
+      on : (class : ℕ) → 3 ≤ class → Known s class anchor room end
           → rowFault s class (λ k o p e. walk (left - 1) s class k o p e) within from last (tlvs gap s at end)
           ≡ goes (λ k o p e. walk (left - 1) s class k o p e) (at + gap) stop (rowFault s class (λ k o p e. walk (left - 1) s class k o p e) within from cell (tlvs gap s stop end)) l
-      unfolding rowFault
-      on class c k = simp (tlvs-tlv gap s at end go (sym is ∙ e), sym ce, same class c k)
+      on class c k = here class ∙ goes-same s within last cell from (at + gap) t start stop (left - 1) l class c shaped (λ d. same class d k) _
 
       count-on : (less : ℕ) → less ≡ cond (eqb (plain t) 0x08) (modifiers - 1) modifiers → Counted 0x08 s gap from room stop less
       unfolding Admitted
       count-on less f = counted-on 0x08 s gap from room at modifiers cnt end (sym is ∙ e) (λ q. admitted .2 q .1) less f
 
-    module _ (cell : ℕ) (ce : cell ≡ cellOf within t) (l : Look) (ag : (l ≡ Fault → ⊥) → Agreed s within anchor gap 0 modifiers last cell (at + gap) t start stop l) where
+    module _ (cell : ℕ) (ce : cell ≡ cellOf within t) (l : Look) (ag : (l ≡ Fault → ⊥) → Agreed s within anchor gap 0 modifiers last cell (at + gap) t start stop (left - 1) l) where
       module _ (x : l ≡ Over) where
         pub c-over : Rest s within anchor room from gap end left stop cell
         unfolding Rest goes

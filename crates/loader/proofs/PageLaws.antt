@@ -1,17 +1,18 @@
--- Where `anchor_clean`, `part_clean`, `row_clean` and `page_clean` find nothing, no class from 4 on does, in the shape of their needs.
+-- Where `anchor_clean`, `part_clean`, `row_clean` and `page_clean` find nothing, no class does, in the shape of their needs.
 -- Assumes nothing.
 use Prim.Native.Nat.{ℕ, _+_, _-_, _≤_, _<_, _%_}
 use mathlib.Core.Bool.{Bool, true, false, cond, not}
 use mathlib.Core.List.{List}
 use mathlib.Core.Path.{_≡_, refl, sym, subst, ap, _∙_}
 use native.Mathlib.Omega.{arith}
-use lib.ListN.{getD, take, drop, length-replicate}
+use lib.ListN.{length, getD, take, drop, length-replicate}
 use lib.Dec.{eqb}
-use borrow.Author.Tests.{lt-leb, eq-eqb, eqb-true, eqb-false}
+use borrow.Author.Tests.{le-ltb, lt-leb, eq-eqb, eqb-true, eqb-false}
 use Rattle.rules.specs.declared.Head.{Head}
 use Rattle.rules.specs.declared.Head.the-variants.{Tlv, Past}
 use Rattle.rules.specs.declared.Look.{Look}
 use Rattle.rules.specs.declared.Look.the-variants.{Fault, Over, Into}
+use Rattle.rules.specs.declared.Found.the-variants.{Fine}
 use Rattle.rules.specs.declared.Spot.{Spot}
 use Rattle.rules.specs.declared.Spot.the-variants.{Cut}
 use Rattle.rules.specs.Bytes.{part}
@@ -21,7 +22,7 @@ use Rattle.rules.specs.Grammar.{cellOf, gapOf, lacks, pageKind, wholeKind}
 use Rattle.rules.specs.Page.{contentAt, pageHead, pageRow}
 use Rattle.rules.specs.Reference.{mark}
 use Rattle.rules.specs.Forms.{isMarked, badAnchor, crowded}
-use Rattle.rules.specs.Loader.{look, orThen, goes, rowFault, walk}
+use Rattle.rules.specs.Loader.{look, orThen, goes, rowFault, walk, after, classFault}
 use Rattle.leaf.proofs.Cases.{both}
 use Rattle.tlv.proofs.Bounds.{head-tlv}
 use Rattle.tlv.proofs.Rows.{row-done, row-tlv}
@@ -30,9 +31,10 @@ use Rattle.page.specs.Span.{spanOf}
 use Rattle.page.proofs.Spans.{span-row}
 use Rattle.forms.proofs.SoundLaws.{is-no}
 use Rattle.forms.proofs.NameLaws.{anchor-none, crowded-unit, crowded-none, crowded-page}
-use Rattle.loader.specs.Clean.{Admitted, Agreed, anchorSlot, UntakenHead, Untaken, FreshHead, Fresh, FreshIf, Known, Clean, PartClean, RowClean, PageClean}
+use Rattle.loader.specs.Clean.{Admitted, Shaped, Agreed, anchorSlot, UntakenHead, Untaken, FreshHead, Fresh, FreshIf, Known, Clean, PartClean, RowClean, PageClean}
 use Rattle.loader.proofs.WalkLaws.{w-start}
-use Rattle.loader.proofs.CleanLaws.{is-so, lack-none, over-not, into-not}
+use Rattle.loader.proofs.StructureLaws.{walk-fine}
+use Rattle.loader.proofs.CleanLaws.{is-so, lack-none, over-not, into-not, goes-same}
 use Rattle.loader.proofs.SlotLaws.{Unseen, unseen-start, unseen-here}
 use Rattle.loader.proofs.Front.{Counted, counted-none, row-counted-here, row-counted-on}
 
@@ -72,7 +74,7 @@ pub ruleset part-laws = (part-unit, part-other)
 -- what is left of the page's parts comes to what they come to, for each class
 unfoldable pub Rest : List ℕ → ℕ → ℕ → ℕ → ℕ → Type 0
 Rest s from end at last =
-    tlvs 0 s from end ≡ pageRow s → (class own : ℕ) → 4 ≤ class
+    tlvs 0 s from end ≡ pageRow s → (class own : ℕ) → 3 ≤ class
     → rowFault s class (λ k o p e. walk 6 s class k o p e) pageKind from last (tlvs 0 s at end) ≡ walk 7 s class pageKind own from end
 
 module _ (s : List ℕ) (from end : ℕ) where
@@ -93,7 +95,7 @@ module _ (s : List ℕ) (from end : ℕ) where
       r-within = let b = head-tlv s at end (sym is ∙ e) in omega arith
 
       module _ (units modifiers : ℕ) (u : Counted 0x0A s 0 from 64 at units) (m : Counted 0x08 s 0 from 32 at modifiers) where
-        module _ (cell : ℕ) (ce : cell ≡ cellOf pageKind t) (l : Look) (ag : (l ≡ Fault → ⊥) → Agreed s pageKind end 0 units modifiers last cell at t start stop l) (n : l ≡ Fault → ⊥) where
+        module _ (cell : ℕ) (ce : cell ≡ cellOf pageKind t) (l : Look) (ag : (l ≡ Fault → ⊥) → Agreed s pageKind end 0 units modifiers last cell at t start stop 6 l) (n : l ≡ Fault → ⊥) where
           admitted : Admitted end 0 units modifiers at t
           unfolding Agreed
           admitted = ag n .0
@@ -117,11 +119,24 @@ module _ (s : List ℕ) (from end : ℕ) where
               ∙ lt-leb 32 (32 - modifiers) (omega arith))
               (λ y. sym (crowded-none s pageKind from at t (eqb-false (t % 128) 0x0A x) (eqb-false (t % 128) 0x08 y))))
 
-          on : (class : ℕ) → 4 ≤ class
+          same : (class : ℕ) → 4 ≤ class → look s class pageKind last cell from at t start stop ≡ l
+          unfolding Agreed
+          same class c = ag n .1 class from c (λ q. anchored) (λ q. uncrowded)
+
+          shaped : Shaped s pageKind at t start stop 6 l
+          unfolding Agreed
+          shaped = ag n .2
+
+          here : (class : ℕ) → rowFault s class (λ k o p e. walk 6 s class k o p e) pageKind from last (tlvs 0 s at end)
+              ≡ goes (λ k o p e. walk 6 s class k o p e) at stop (rowFault s class (λ k o p e. walk 6 s class k o p e) pageKind from cell (tlvs 0 s stop end))
+              (look s class pageKind last cell from at t start stop)
+          unfolding rowFault
+          here class = simp (row-tlv s at end go (sym is ∙ e), sym ce)
+
+          on : (class : ℕ) → 3 ≤ class
               → rowFault s class (λ k o p e. walk 6 s class k o p e) pageKind from last (tlvs 0 s at end)
               ≡ goes (λ k o p e. walk 6 s class k o p e) at stop (rowFault s class (λ k o p e. walk 6 s class k o p e) pageKind from cell (tlvs 0 s stop end)) l
-          unfolding Agreed rowFault
-          on class c = simp (row-tlv s at end go (sym is ∙ e), sym ce, ag n .1 class from c (λ q. anchored) (λ q. uncrowded))
+          on class c = here class ∙ goes-same s pageKind last cell from at t start stop 6 l class c shaped (same class) _
 
           units-on : (less : ℕ) → less ≡ cond (eqb (plain t) 0x0A) (units - 1) units → Counted 0x0A s 0 from 64 stop less
           unfolding Admitted
@@ -131,7 +146,7 @@ module _ (s : List ℕ) (from end : ℕ) where
           unfolding Admitted
           modifiers-on less f = row-counted-on 0x08 s from 32 at modifiers m end (sym is ∙ e) (λ q. admitted .2 q .1) less f
 
-        module _ (cell : ℕ) (ce : cell ≡ cellOf pageKind t) (l : Look) (ag : (l ≡ Fault → ⊥) → Agreed s pageKind end 0 units modifiers last cell at t start stop l) where
+        module _ (cell : ℕ) (ce : cell ≡ cellOf pageKind t) (l : Look) (ag : (l ≡ Fault → ⊥) → Agreed s pageKind end 0 units modifiers last cell at t start stop 6 l) where
           module _ (x : l ≡ Over) where
             pub r-over : Rest s from end stop cell
             unfolding Rest goes
@@ -160,9 +175,9 @@ module _ (s : List ℕ) (from end : ℕ) where
 
 pub ruleset page-row-laws = (r-start, r-done, r-less, counted-none, unseen-start, length-replicate)
 
-module _ (s : List ℕ) (stop : ℕ) (b : Bool) (be : b ≡ lacks wholeKind stop (tlvs (gapOf wholeKind) s 0 stop)) (bx : b ≡ false)
+module _ (s : List ℕ) (stop : ℕ) (all : length s ≤ stop) (b : Bool) (be : b ≡ lacks wholeKind stop (tlvs (gapOf wholeKind) s 0 stop)) (bx : b ≡ false)
     (h : Head) (is : h ≡ headAt s 0 stop) (t start end : ℕ) (e : h ≡ Tlv t start end) (y : end ≡ stop) (cell : ℕ) (ce : cell ≡ cellOf wholeKind t)
-    (l : Look) (ag : (l ≡ Fault → ⊥) → Agreed s wholeKind stop 0 0 0 0 cell 0 t start stop l) (kind p : ℕ) (x : l ≡ Into kind p) where
+    (l : Look) (ag : (l ≡ Fault → ⊥) → Agreed s wholeKind stop 0 0 0 0 cell 0 t start stop 7 l) (kind p : ℕ) (x : l ≡ Into kind p) where
   admitted-whole : Admitted stop 0 0 0 0 t
   unfolding Agreed
   admitted-whole = ag (into-not l kind p x) .0
@@ -175,15 +190,34 @@ module _ (s : List ℕ) (stop : ℕ) (b : Bool) (be : b ≡ lacks wholeKind stop
       (λ q. sym (anchor-none s 0 t start stop (λ z. let w = admitted-whole .0 z in omega arith)))
       (λ q. sym (crowded-none s wholeKind 0 0 t (λ z. let w = admitted-whole .1 z in omega arith) (λ z. let w = admitted-whole .2 z in omega arith)))
 
+  shaped-whole : Shaped s wholeKind 0 t start stop 7 l
+  unfolding Agreed
+  shaped-whole = ag (into-not l kind p x) .2
+
+  here-whole : (class : ℕ) → rowFault s class (λ k o p e. walk 7 s class k o p e) wholeKind 0 0 (tlvs 0 s 0 stop)
+      ≡ goes (λ k o p e. walk 7 s class k o p e) 0 stop Fine (look s class wholeKind 0 cell 0 0 t start stop)
+  unfolding rowFault
+  here-whole class =
+      let i = head-tlv s 0 stop (sym is ∙ e) in simp (row-tlv s 0 stop (omega arith) (sym is ∙ e ∙ ap (Tlv t start) y), row-done s stop stop (omega arith), sym ce)
+
   module _ (k : kind ≡ pageKind) (row : Span) (re : row ≡ spanOf s (pageHead s)) (pe : p ≡ row .from) (se : stop ≡ row .end) where
     whole-row : tlvs 0 s p stop ≡ pageRow s
     unfolding pageRow
     whole-row = ap (λ n. tlvs 0 s n stop) pe ∙ ap (λ n. tlvs 0 s (row .from) n) se ∙ rw re (span-row s (pageHead s))
 
-    pub whole-clean : (r : Bool) → (r ≡ true → RowClean s p stop) → r ≡ true → PageClean s stop
-    unfolding PageClean RowClean gapOf rowFault goes orThen
-    whole-clean r rc rx class c =
-        let i = head-tlv s 0 stop (sym is ∙ e) in
-        let f = rc rx whole-row class 0 c in
-        sym (w-start s class wholeKind 0 0 stop 8 (λ z. omega arith) false (lack-none s class wholeKind 0 stop b be bx) refl 0 refl)
-        ∙ simp (row-tlv s 0 stop (omega arith) (sym is ∙ e ∙ ap (Tlv t start) y), row-done s stop stop (omega arith), sym ce, same-whole class c, x, k, f)
+    module _ (r : Bool) (rc : r ≡ true → RowClean s p stop) (rx : r ≡ true) where
+      walk-whole : (class : ℕ) → 3 ≤ class → walk 8 s class wholeKind 0 0 stop ≡ Fine
+      unfolding RowClean gapOf goes orThen
+      walk-whole class c =
+          let f = rc rx whole-row class 0 c in
+          sym (w-start s class wholeKind 0 0 stop 8 (λ z. omega arith) false (lack-none s class wholeKind 0 stop b be bx) refl 0 refl)
+          ∙ here-whole class
+          ∙ goes-same s wholeKind 0 cell 0 0 t start stop 7 l class c shaped-whole (same-whole class) Fine
+          ∙ simp (x, k, f)
+
+      pub whole-clean : PageClean s stop
+      unfolding PageClean classFault orThen after
+      whole-clean class c =
+          both (eqb class 2)
+          (λ z. let q = eqb-true class 2 z in rw q (simp (walk-fine 8 s wholeKind 0 0 stop (walk-whole 3 (omega arith)), le-ltb stop (length s) all)))
+          (λ z. let q = eqb-false class 2 z in simp (walk-whole class (omega arith), z))

@@ -63,6 +63,10 @@ walk-none zero s within own from end n = tt
 walk-none (suc left) s within own from end n =
     row-none s (λ k o p e. walk left s 3 k o p e) (λ k o p e. walk left s 2 k o p e) (λ k o p e. walk-none left s k o p e) within from 0 (tlvs (gapOf within) s from end) n
 
+pub walk-fine : (left : ℕ) (s : List ℕ) (within own from end : ℕ) → walk left s 3 within own from end ≡ Fine → walk left s 2 within own from end ≡ Fine
+walk-fine left s within own from end x =
+    none-eq (walk left s 2 within own from end) (walk-none left s within own from end (eq-none (walk left s 3 within own from end) x))
+
 module _ (s : List ℕ) (stop : ℕ) where
   two-after : classFault s 3 stop ≡ Fine → classFault s 2 stop ≡ after s 2 stop
   unfolding classFault orThen

@@ -1,4 +1,4 @@
--- Where no class from 4 on finds a fault.
+-- Where no class finds a fault.
 use Prim.Native.Nat.{ℕ, _+_, _*_, _≤_, _<_, _%_}
 use mathlib.Core.Bool.{false, cond}
 use mathlib.Core.List.{List, [], _∷_}
@@ -7,16 +7,18 @@ use lib.Dec.{eqb}
 use Rattle.rules.specs.declared.Head.{Head}
 use Rattle.rules.specs.declared.Head.the-variants.{Tlv, Past}
 use Rattle.rules.specs.declared.Look.{Look}
+use Rattle.rules.specs.declared.Found.{Found}
 use Rattle.rules.specs.declared.Found.the-variants.{Fine}
 use Rattle.rules.specs.declared.Part.{Part}
 use Rattle.rules.specs.declared.Part.the-variants.{Held, Missing}
 use Rattle.rules.specs.Bytes.{part}
 use Rattle.rules.specs.Tlv.{headAt}
 use Rattle.rules.specs.Tlvs.{tlvs, plain, count}
-use Rattle.rules.specs.Grammar.{pageKind, wholeKind}
+use Rattle.rules.specs.Grammar.{pageKind}
+use Rattle.rules.specs.Shape.{bodyOf}
 use Rattle.rules.specs.Page.{contentAt, pageRow, anchorIn}
 use Rattle.rules.specs.Forms.{takenIn, badAnchor}
-use Rattle.rules.specs.Loader.{walk}
+use Rattle.rules.specs.Loader.{shapeLook, judgedLook, goes, walk, classFault}
 use Rattle.forms.specs.Sound.{Seen}
 
 -- an anchor stands at its one place, and a unit and a modifier only where some are left
@@ -24,10 +26,21 @@ unfoldable pub Admitted : ℕ → ℕ → ℕ → ℕ → ℕ → ℕ → Type 0
 Admitted anchor gap units modifiers at tag =
     (tag ≡ 0x0B → at ≡ anchor) × (tag % 128 ≡ 0x0A → (gap ≡ 0) × (0 < units)) × (tag % 128 ≡ 0x08 → (gap ≡ 0) × (0 < modifiers))
 
--- such a TLV, in which each class sees the same
-unfoldable pub Agreed : List ℕ → ℕ → ℕ → ℕ → ℕ → ℕ → ℕ → ℕ → ℕ → ℕ → ℕ → ℕ → Look → Type 0
-Agreed s within anchor gap units modifiers last cell at tag start stop l =
-    Admitted anchor gap units modifiers at tag × Seen s within last cell at tag start stop l
+-- what class 3 sees in a TLV comes to the same as a look, with so many levels left below
+abbrev pub Shaped : List ℕ → ℕ → ℕ → ℕ → ℕ → ℕ → ℕ → Look → Type 0
+Shaped s within at tag start stop below l =
+    (rest : Found)
+    → goes (λ k o p e. walk below s 3 k o p e) at stop rest (shapeLook (bodyOf s within tag start stop))
+    ≡ goes (λ k o p e. walk below s 3 k o p e) at stop rest l
+
+-- the look at what is judged, where that is so
+unfoldable pub Settled : List ℕ → ℕ → ℕ → ℕ → ℕ → ℕ → ℕ → Look → Type 0
+Settled s within at tag start stop below l = (l ≡ judgedLook (bodyOf s within tag start stop)) × Shaped s within at tag start stop below l
+
+-- an admitted TLV, in which each class sees the same
+unfoldable pub Agreed : List ℕ → ℕ → ℕ → ℕ → ℕ → ℕ → ℕ → ℕ → ℕ → ℕ → ℕ → ℕ → ℕ → Look → Type 0
+Agreed s within anchor gap units modifiers last cell at tag start stop below l =
+    Admitted anchor gap units modifiers at tag × Seen s within last cell at tag start stop l × Shaped s within at tag start stop below l
 
 -- the anchor at a place is not bad
 abbrev pub FreshHead : List ℕ → ℕ → Head → Type 0
@@ -42,7 +55,7 @@ unfoldable pub Known : List ℕ → ℕ → ℕ → ℕ → ℕ → Type 0
 Known s class anchor room end = (class ≡ 5 → anchor < end → Fresh s anchor end) × (class ≡ 6 → room + count 0x08 (pageRow s) ≤ 32)
 
 unfoldable pub Clean : List ℕ → ℕ → ℕ → ℕ → ℕ → ℕ → ℕ → Type 0
-Clean s within anchor room from end left = (class own : ℕ) → 4 ≤ class → Known s class anchor room end → walk left s class within own from end ≡ Fine
+Clean s within anchor room from end left = (class own : ℕ) → 3 ≤ class → Known s class anchor room end → walk left s class within own from end ≡ Fine
 
 -- a name falls into one of 1024 slots by its bytes
 unfoldable pub slotIn : ℕ → List ℕ → ℕ
@@ -75,12 +88,12 @@ FreshIf s seen anchor end = (seen ≡ 0 → Untaken s anchor end) → Fresh s an
 -- a part of the page, with room for so many modifiers beside those of the page; its anchor's slot is seen already, or no earlier one is equal
 unfoldable pub PartClean : List ℕ → ℕ → ℕ → ℕ → ℕ → ℕ → ℕ → ℕ → Type 0
 PartClean s room seen tag start kind from stop =
-    (class own : ℕ) → 4 ≤ class → room + count 0x08 (pageRow s) ≤ 32 → (tag % 128 ≡ 0x0A → seen ≡ 0 → Untaken s (contentAt s tag start stop) stop)
+    (class own : ℕ) → 3 ≤ class → room + count 0x08 (pageRow s) ≤ 32 → (tag % 128 ≡ 0x0A → seen ≡ 0 → Untaken s (contentAt s tag start stop) stop)
     → walk 6 s class kind own from stop ≡ Fine
 
 -- the page's parts, where they stand from a place up to an end
 unfoldable pub RowClean : List ℕ → ℕ → ℕ → Type 0
-RowClean s from end = tlvs 0 s from end ≡ pageRow s → (class own : ℕ) → 4 ≤ class → walk 7 s class pageKind own from end ≡ Fine
+RowClean s from end = tlvs 0 s from end ≡ pageRow s → (class own : ℕ) → 3 ≤ class → walk 7 s class pageKind own from end ≡ Fine
 
 unfoldable pub PageClean : List ℕ → ℕ → Type 0
-PageClean s stop = (class : ℕ) → 4 ≤ class → walk 8 s class wholeKind 0 0 stop ≡ Fine
+PageClean s stop = (class : ℕ) → 2 ≤ class → classFault s class stop ≡ Fine

@@ -1,4 +1,4 @@
-// The loader's answer to a page: one walk of its structure, asked for one class at a time.
+// The loader's answer to a page: one walk that settles a page without a fault, and one that is asked for one class at a time.
 use rules::Body;
 use rules::Found;
 use rules::Head;
@@ -17,7 +17,7 @@ ghost use Rattle.rules.specs.Grammar.{cellOf, gapOf};
 ghost use Rattle.rules.specs.Shape.{bodyOf};
 ghost use Rattle.rules.specs.Loader.{shapeLook, judgedLook, look, floor, classFault, judgeBy};
 ghost use Rattle.rules.specs.Loader.{lacking as Loader·lacking, walk as Loader·walk, after as Loader·after, judge as Loader·judge};
-ghost use Rattle.loader.specs.Clean.{Admitted, Agreed, slotOf, anchorSlot, FreshIf, Clean, PartClean, RowClean, PageClean};
+ghost use Rattle.loader.specs.Clean.{Admitted, Settled, Agreed, slotOf, anchorSlot, FreshIf, Clean, PartClean, RowClean, PageClean};
 
 // The classes in their order, each judged over the whole page before the next.
 const CLASSES: [u8; 6] = [2, 3, 4, 5, 6, 7];
@@ -27,7 +27,9 @@ const PAGE: usize = 4096;
 
 const LEVELS: usize = 8;
 
-// The levels from that of a unit's TLVs on.
+// The levels from that of the page's parts on, and from that of a unit's TLVs on.
+const PAGE_LEVELS: usize = 7;
+
 const UNIT_LEVELS: usize = 6;
 
 // How many slots the names of anchors fall into.
@@ -229,7 +231,37 @@ fn left_after(left: usize, counted: u8, tag: u8) -> usize
     left
 }
 
-// A TLV as all the classes from 4 on see it, `Fault` where they may differ.
+// A TLV that is neither at fault nor beyond the base, as the classes from 4 on see it; `Fault` where class 3 may see another. Inside '46' class 3
+// alone looks, with so many levels left below.
+fn settled_look(
+    s: &[u8],
+    within: usize,
+    at: usize,
+    tag: u8,
+    start: usize,
+    stop: usize,
+    below: usize,
+) -> Look
+    requires { ⌜ stop ≤ length (now s) ⌝ }
+    requires { ⌜ start ≤ stop ⌝ }
+    ensures { λ r. ⌜ ((r ≡ Look.Fault → ⊥) → Settled (now (s .entry)) within at tag start stop below r) ⌝ }
+{
+    match shape::body_of(s, within, tag, start, stop) {
+        Body::Short => return Look::Fault,
+        Body::Leaf => return Look::Over,
+        Body::Inner(kind, p) => {
+            if kind == grammar::COMMAND {
+                let Found::At(_) = walk(s, 3, kind, at, p, stop, below) else {
+                    return Look::Over;
+                };
+                return Look::Fault;
+            }
+            return Look::Into(kind, p);
+        }
+    }
+}
+
+// A TLV as all the classes from 3 on see it, `Fault` where they may differ.
 fn clean_look(
     s: &[u8],
     within: usize,
@@ -243,21 +275,22 @@ fn clean_look(
     tag: u8,
     start: usize,
     stop: usize,
+    below: usize,
 ) -> Look
     requires { ⌜ stop ≤ length (now s) ⌝ }
     requires { ⌜ start ≤ stop ⌝ }
-    ensures { λ r. ⌜ ((r ≡ Look.Fault → ⊥) → Agreed (now (s .entry)) within anchor gap units modifiers last cell at tag start stop r) ⌝ }
+    ensures { λ r. ⌜ ((r ≡ Look.Fault → ⊥) → Agreed (now (s .entry)) within anchor gap units modifiers last cell at tag start stop below r) ⌝ }
 {
     if is_admitted(anchor, gap, units, modifiers, at, tag) {
         if forms::is_sound(s, within, last, cell, at, tag, start, stop) {
-            return judged_look(s, within, tag, start, stop);
+            return settled_look(s, within, at, tag, start, stop, below);
         }
         return Look::Fault;
     }
     Look::Fault
 }
 
-// No class from 4 on finds a fault in a container, where an anchor may stand at one place and some modifiers.
+// No class from 3 on finds a fault in a container, where an anchor may stand at one place and some modifiers.
 fn clean(
     s: &[u8],
     within: usize,
@@ -272,7 +305,7 @@ fn clean(
     ensures { λ r. ⌜ (r ≡ true → Clean (now (s .entry)) within anchor room from end left) ⌝ }
 {
     if left == 0 {
-        return true;
+        return end - from <= grammar::gap_of(within);
     }
     if grammar::lacks(s, within, from, end) {
         return false;
@@ -301,6 +334,7 @@ fn clean(
             t,
             start,
             stop,
+            left - 1,
         ) {
             Look::Fault => return false,
             Look::Over => {}
@@ -365,7 +399,7 @@ fn anchor_clean(s: &[u8], seen: u8, from: usize, end: usize) -> bool
     true
 }
 
-// No class from 4 on finds a fault in what a part of the page holds, a unit with room for so many modifiers.
+// No class from 3 on finds a fault in what a part of the page holds, a unit with room for so many modifiers.
 fn part_clean(
     s: &[u8],
     room: usize,
@@ -392,7 +426,7 @@ fn part_clean(
     clean(s, kind, stop, 0, from, stop, UNIT_LEVELS)
 }
 
-// No class from 4 on finds a fault in the page's parts.
+// No class from 3 on finds a fault in the page's parts.
 fn row_clean(s: &[u8], from: usize, end: usize) -> bool
     requires { ⌜ end ≤ length (now s) ⌝ }
     requires { ⌜ from ≤ end ⌝ }
@@ -434,6 +468,7 @@ fn row_clean(s: &[u8], from: usize, end: usize) -> bool
             t,
             start,
             stop,
+            UNIT_LEVELS,
         ) {
             Look::Fault => return false,
             Look::Over => {}
@@ -451,11 +486,14 @@ fn row_clean(s: &[u8], from: usize, end: usize) -> bool
     true
 }
 
-// No class from 4 on finds a fault in a page whose TLV stops at a place.
+// No class finds a fault in a page whose TLV stops at a place: what class 2 finds inside the page class 3 finds too.
 fn page_clean(s: &[u8], stop: usize) -> bool
     requires { ⌜ stop ≤ length (now s) ⌝ }
     ensures { λ r. ⌜ (r ≡ true → PageClean (now (s .entry)) stop) ⌝ }
 {
+    if stop < s.len() {
+        return false;
+    }
     if grammar::lacks(s, grammar::WHOLE, 0, stop) {
         return false;
     }
@@ -466,7 +504,21 @@ fn page_clean(s: &[u8], stop: usize) -> bool
         return false;
     }
     let cell = grammar::cell_of(grammar::WHOLE, t);
-    let look = clean_look(s, grammar::WHOLE, stop, 0, 0, 0, 0, cell, 0, t, start, stop);
+    let look = clean_look(
+        s,
+        grammar::WHOLE,
+        stop,
+        0,
+        0,
+        0,
+        0,
+        cell,
+        0,
+        t,
+        start,
+        stop,
+        PAGE_LEVELS,
+    );
     let Look::Into(kind, p) = look else {
         return false;
     };
@@ -538,11 +590,11 @@ pub fn judge(page: &[u8]) -> Judged
     let Head::Tlv(_, _, stop) = page::page_head(page) else {
         return Judged::Rejected(2, 0);
     };
-    if let Judged::Rejected(class, p) = structure(page, stop) {
-        return Judged::Rejected(class, p);
-    }
     if page_clean(page, stop) {
         return Judged::Accepted;
+    }
+    if let Judged::Rejected(class, p) = structure(page, stop) {
+        return Judged::Rejected(class, p);
     }
     let mut i = 2;
     while i < 6 {

@@ -1,4 +1,4 @@
--- `clean` answers true only where no class from 4 on finds a fault. It calls itself with fewer levels left. The loop's invariant: what is left of the
+-- `clean` answers true only where no class from 3 on finds a fault. It calls itself with fewer levels left. The loop's invariant: what is left of the
 -- row comes to what the whole row comes to, and the modifiers before it are counted.
 -- Assumes nothing.
 use borrow.Author.Needs.{needs}
@@ -33,7 +33,7 @@ abbrev clean-below : ℕ → In 1 clean-kinds.ps
 clean-below t = and 1 clean-kinds.ps (falls 1 clean-kinds.ps _<_ μ-clean t) clean.Pre
 
 abbrev calls : ℕ → clean-lts.Claims
-calls t = (lacks-reads.Asked, lacks-reads.Learnt, gap-of-reads.Asked, gap-of-reads.Learnt, head-at-reads.Asked, head-at-reads.Learnt, cell-of-reads.Asked, cell-of-reads.Learnt, left-after-reads.Asked, left-after-reads.Learnt, clean-look-reads.Asked, clean-look-reads.Learnt, clean-below t, clean.Post)
+calls t = (gap-of-reads.Asked, gap-of-reads.Learnt, lacks-reads.Asked, lacks-reads.Learnt, head-at-reads.Asked, head-at-reads.Learnt, cell-of-reads.Asked, cell-of-reads.Learnt, left-after-reads.Asked, left-after-reads.Learnt, clean-look-reads.Asked, clean-look-reads.Learnt, clean-below t, clean.Post)
 
 abbrev clean-Inv-loop : clean-lts.InvT-loop
 clean-Inv-loop s within anchor room from end left gap at₀ last₀ modifiers₀ at last modifiers =
@@ -41,6 +41,12 @@ clean-Inv-loop s within anchor room from end left gap at₀ last₀ modifiers₀
 
 abbrev clean-μ-loop : clean-lts.MeasureT-loop
 clean-μ-loop s within anchor room from end left gap at₀ last₀ modifiers₀ at last modifiers = end - at
+
+clean-sub-result : (t : ℕ) → clean-lts.Need-sub-result (calls t) (clean-at t) clean.Post clean-Inv-loop clean-μ-loop
+clean-sub-result t c = search needs
+
+clean-gap-of-requires : (t : ℕ) → clean-lts.Need-gap-of-requires (calls t) (clean-at t) clean.Post clean-Inv-loop clean-μ-loop
+clean-gap-of-requires t c κs = search needs
 
 clean-returns : (t : ℕ) → clean-lts.Need-returns (calls t) (clean-at t) clean.Post clean-Inv-loop clean-μ-loop
 clean-returns t c = search (needs, clean-laws)
@@ -51,8 +57,8 @@ clean-lacks-requires t c κs = search (needs, clean-laws)
 clean-returns-2 : (t : ℕ) → clean-lts.Need-returns-2 (calls t) (clean-at t) clean.Post clean-Inv-loop clean-μ-loop
 clean-returns-2 t c = never
 
-clean-gap-of-requires : (t : ℕ) → clean-lts.Need-gap-of-requires (calls t) (clean-at t) clean.Post clean-Inv-loop clean-μ-loop
-clean-gap-of-requires t c κs = search needs
+clean-gap-of-requires-2 : (t : ℕ) → clean-lts.Need-gap-of-requires-2 (calls t) (clean-at t) clean.Post clean-Inv-loop clean-μ-loop
+clean-gap-of-requires-2 t c κs = search needs
 
 clean-loop-holds : (t : ℕ) → clean-lts.Need-loop-holds (calls t) (clean-at t) clean.Post clean-Inv-loop clean-μ-loop
 clean-loop-holds t c = search (needs, clean-laws)
@@ -81,6 +87,9 @@ clean-cell-of-requires t c κs = search needs
 clean-left-after-requires : (t : ℕ) → clean-lts.Need-left-after-requires (calls t) (clean-at t) clean.Post clean-Inv-loop clean-μ-loop
 clean-left-after-requires t c κs = search needs
 
+clean-sub-clean-look : (t : ℕ) → clean-lts.Need-sub-clean-look (calls t) (clean-at t) clean.Post clean-Inv-loop clean-μ-loop
+clean-sub-clean-look t c = search needs
+
 clean-clean-look-requires : (t : ℕ) → clean-lts.Need-clean-look-requires (calls t) (clean-at t) clean.Post clean-Inv-loop clean-μ-loop
 clean-clean-look-requires t c κs =
     let k = c .before .before .before in
@@ -106,7 +115,7 @@ clean-clean-requires : (t : ℕ) → clean-lts.Need-clean-requires (calls t) (cl
 clean-clean-requires t c κs =
     let k = c .before .before .before .before .before .before .before in
     let b = head-tlv _ _ _ (was (k .before .before .head-at .ensures) (k .t .given .1)) in
-    let d = agreed-in _ _ _ _ _ _ _ _ _ _ _ _ _ (c .before .before .before .clean-look .ensures) _ _ (c .before .kind .given .1) (b .1) in
+    let d = agreed-in _ _ _ _ _ _ _ _ _ _ _ _ _ _ (c .before .before .before .clean-look .ensures) _ _ (c .before .kind .given .1) (b .1) in
     let r = k .before .before .before .before .before .before .before .before .before .before .pre in
     omega arith
 
@@ -147,10 +156,12 @@ pub +clean-spec : {M : Type 1} → statement M
     clean.Post
     clean-Inv-loop
     clean-μ-loop
+    (clean-sub-result t)
+    (clean-gap-of-requires t)
     (clean-returns t)
     (clean-lacks-requires t)
     (clean-returns-2 t)
-    (clean-gap-of-requires t)
+    (clean-gap-of-requires-2 t)
     (clean-loop-holds t)
     (clean-sub-loop t)
     (clean-add-place t)
@@ -160,6 +171,7 @@ pub +clean-spec : {M : Type 1} → statement M
     (clean-returns-3 t)
     (clean-cell-of-requires t)
     (clean-left-after-requires t)
+    (clean-sub-clean-look t)
     (clean-clean-look-requires t)
     (clean-enum-told-2 t)
     (clean-returns-4 t)

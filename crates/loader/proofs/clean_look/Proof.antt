@@ -1,4 +1,4 @@
--- `clean_look` is what each class from 4 on sees, where it is not a fault.
+-- `clean_look` is what each class from 3 on sees, where it is not a fault.
 -- Assumes nothing.
 use borrow.Author.Needs.{needs}
 use Rattle.loader.proofs.CleanLaws.{agreed-laws}
@@ -11,8 +11,8 @@ is-admitted-requires c κs = search needs
 is-sound-requires : tie.Need-is-sound-requires
 is-sound-requires c κs = search needs
 
-judged-look-requires : tie.Need-judged-look-requires
-judged-look-requires c κs = search needs
+settled-look-requires : tie.Need-settled-look-requires
+settled-look-requires c κs = search needs
 
 returns : tie.Need-returns
 returns c = search (needs, agreed-laws)
@@ -29,7 +29,7 @@ clean-look-spec =
     (tie.spec
     is-admitted-requires
     is-sound-requires
-    judged-look-requires
+    settled-look-requires
     returns
     returns-2
     returns-3)

@@ -1,4 +1,4 @@
--- `part_clean` answers true only where no class from 4 on finds a fault in a part of the page.
+-- `part_clean` answers true only where no class from 3 on finds a fault in a part of the page.
 -- Assumes nothing.
 use borrow.Author.Needs.{needs}
 use Rattle.forms.proofs.SoundLaws.{never}

@@ -1,4 +1,4 @@
--- `row_clean` answers true only where no class from 4 on finds a fault in the page's parts. The loop's invariant: what is left of them comes to what
+-- `row_clean` answers true only where no class from 3 on finds a fault in the page's parts. The loop's invariant: what is left of them comes to what
 -- they come to, the units and modifiers before are counted, and a name whose slot is not seen is no anchor before.
 -- Assumes nothing.
 use Prim.Native.Nat.{_+_, _-_, _≤_}
@@ -87,7 +87,7 @@ part-clean-requires : tie.Need-part-clean-requires Inv-loop μ-loop
 part-clean-requires c κs =
     let k = c .before .before .before .before .before .before .before .before .before in
     let b = head-tlv _ _ _ (was (k .before .before .head-at .ensures) (k .t .given .1)) in
-    let d = agreed-in _ _ _ _ _ _ _ _ _ _ _ _ _ (c .before .before .before .clean-look .ensures) _ _ (c .before .kind .given .1) (b .1) in
+    let d = agreed-in _ _ _ _ _ _ _ _ _ _ _ _ _ _ (c .before .before .before .clean-look .ensures) _ _ (c .before .kind .given .1) (b .1) in
     let r = k .before .before .before .before .before .before .before .before .before .before .pre in
     omega arith
 
