@@ -1,4 +1,4 @@
--- The ways through `class_fault` and `judge`, in the shape of their needs.
+-- The ways through `judge`, in the shape of its needs.
 -- Assumes nothing.
 use Prim.Native.Nat.{ℕ, _+_, _≤_, _<_}
 use mathlib.Core.Bool.{Bool, true}
@@ -15,22 +15,10 @@ use Rattle.rules.specs.declared.Found.{Found}
 use Rattle.rules.specs.declared.Found.the-variants.{Fine, At}
 use Rattle.rules.specs.declared.Judged.{Judged}
 use Rattle.rules.specs.declared.Judged.the-variants.{Accepted, Rejected}
-use Rattle.rules.specs.Grammar.{wholeKind}
 use Rattle.rules.specs.Page.{pageHead}
-use Rattle.rules.specs.Loader.{orThen, walk, after, classFault, classes, orRejected, judgeBy, judgeHead, judge}
+use Rattle.rules.specs.Loader.{classFault, classes, orRejected, judgeBy, judgeHead, judge}
 use Rattle.page.proofs.Spans.{page-stop}
-use Rattle.loader.specs.Clean.{PageClean}
-
-module _ (s : List ℕ) (class stop : ℕ) (r : Found) (e : r ≡ walk 8 s class wholeKind 0 0 stop) where
-  pub class-at : (p : ℕ) → r ≡ At p → At p ≡ classFault s class stop
-  unfolding classFault orThen
-  class-at p x = simp (sym e ∙ x)
-
-  pub class-after : r ≡ Fine → (q : Found) → q ≡ after s class stop → q ≡ classFault s class stop
-  unfolding classFault orThen
-  class-after x q f = f ∙ simp (sym e ∙ x)
-
-pub ruleset class-laws = (class-at, class-after)
+use Rattle.faultless.specs.Clean.{PageClean}
 
 -- the classes from the i-th on come to w
 abbrev pub Left : List ℕ → ℕ → ℕ → Judged → Type 0
