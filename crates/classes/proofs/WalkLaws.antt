@@ -24,6 +24,20 @@ use Rattle.tlv.proofs.Bounds.{head-tlv}
 use Rattle.tlv.proofs.Rows.{tlvs-done, tlvs-tlv, tlvs-past}
 use Rattle.classes.proofs.LookLaws.{look-any, look-into}
 
+-- a TLV of a row, in its container: what follows is shorter
+module _ (s : List ℕ) (gap end at : ℕ) (h : Head) (is : h ≡ headAt s (at + gap) end) (t start stop : ℕ) (e : h ≡ Tlv t start stop) where
+  pub t-less : gap < end - at → end - stop < end - at
+  t-less go = let b = head-tlv s (at + gap) end (sym is ∙ e) in omega arith
+
+  pub t-within : stop ≤ end
+  t-within = let b = head-tlv s (at + gap) end (sym is ∙ e) in omega arith
+
+  pub t-length : end ≤ length s → stop ≤ length s
+  t-length x = let b = head-tlv s (at + gap) end (sym is ∙ e) in omega arith
+
+  pub t-value : start ≤ stop
+  t-value = let b = head-tlv s (at + gap) end (sym is ∙ e) in omega arith
+
 -- the rest of a row comes to w
 abbrev pub Left : List ℕ → ℕ → ℕ → ℕ → ℕ → ℕ → ℕ → ℕ → ℕ → Found → Type 0
 Left s class within from gap end left at last w =
@@ -66,18 +80,6 @@ module _ (s : List ℕ) (class within from gap end left at last : ℕ) (w : Foun
     w-past e = sym (simp (tlvs-past gap s at end go (sym is ∙ e))) ∙ inv
 
     module _ (t start stop : ℕ) (e : h ≡ Tlv t start stop) where
-      pub w-less : end - stop < end - at
-      w-less = let b = head-tlv s (at + gap) end (sym is ∙ e) in omega arith
-
-      pub w-within : stop ≤ end
-      w-within = let b = head-tlv s (at + gap) end (sym is ∙ e) in omega arith
-
-      pub w-length : end ≤ length s → stop ≤ length s
-      w-length x = let b = head-tlv s (at + gap) end (sym is ∙ e) in omega arith
-
-      pub w-value : start ≤ stop
-      w-value = let b = head-tlv s (at + gap) end (sym is ∙ e) in omega arith
-
       module _ (cell : ℕ) (ce : cell ≡ cond (eqb class 4) (cellOf within t) 0) (l : Look) (le : l ≡ look s class within last cell from (at + gap) t start stop) where
         here : rowFault s class (λ k o p e. walk (left - 1) s class k o p e) within from last (tlvs gap s at end)
             ≡ goes (λ k o p e. walk (left - 1) s class k o p e) (at + gap) stop
@@ -101,7 +103,7 @@ module _ (s : List ℕ) (class within from gap end left at last : ℕ) (w : Foun
 
         module _ (kind p : ℕ) (x : l ≡ Into kind p) where
           pub w-in : p ≤ stop
-          w-in = look-into s class within last cell from (at + gap) t start stop w-value (sym le ∙ x)
+          w-in = look-into s class within last cell from (at + gap) t start stop (t-value s gap end at h is t start stop e) (sym le ∙ x)
 
           module _ (r : Found) (re : r ≡ walk (left - 1) s class kind (at + gap) p stop) where
             pub w-hit : (q : ℕ) → r ≡ At q → At q ≡ w
@@ -112,4 +114,4 @@ module _ (s : List ℕ) (class within from gap end left at last : ℕ) (w : Foun
             unfolding goes orThen
             w-fine y = sym (here ∙ simp (x, sym re ∙ y)) ∙ inv
 
-pub ruleset walk-laws = (w-floor, w-lack, w-start, w-done, w-past, w-less, w-within, w-length, w-value, w-fault, w-over, w-in, w-hit, w-fine)
+pub ruleset walk-laws = (w-floor, w-lack, w-start, w-done, w-past, t-less, t-within, t-length, t-value, w-fault, w-over, w-in, w-hit, w-fine)

@@ -30,7 +30,7 @@ use Rattle.forms.specs.Sound.{Seen}
 use Rattle.forms.proofs.NameLaws.{anchor-none, crowded-none}
 use Rattle.faultless.specs.Clean.{Admitted, Shaped, Settled, Agreed, FreshHead, Fresh, Known, Clean}
 use Rattle.classes.proofs.LookLaws.{look-into}
-use Rattle.classes.proofs.WalkLaws.{Left, w-floor, w-start, w-done}
+use Rattle.classes.proofs.WalkLaws.{t-less, t-within, Left, w-floor, w-start, w-done}
 use Rattle.faultless.proofs.Front.{Counted, counted-none, counted-here, counted-on}
 
 pub is-so : (b : Bool) → not b ≡ false → b ≡ true
@@ -195,12 +195,6 @@ module _ (s : List ℕ) (within anchor room from gap end left at last modifiers 
   c-done h x class own c k = sym (w-done s class within from gap end left at last _ (inv class own c k) h)
 
   module _ (cnt : Counted 0x08 s gap from room at modifiers) (go : gap < end - at) (h : Head) (is : h ≡ headAt s (at + gap) end) (t start stop : ℕ) (e : h ≡ Tlv t start stop) where
-    pub c-less : end - stop < end - at
-    c-less = let b = head-tlv s (at + gap) end (sym is ∙ e) in omega arith
-
-    pub c-within : stop ≤ end
-    c-within = let b = head-tlv s (at + gap) end (sym is ∙ e) in omega arith
-
     module _ (cell : ℕ) (ce : cell ≡ cellOf within t) (l : Look) (ag : (l ≡ Fault → ⊥) → Agreed s within anchor gap 0 modifiers last cell (at + gap) t start stop (left - 1) l) (n : l ≡ Fault → ⊥) where
       admitted : Admitted anchor gap 0 modifiers (at + gap) t
       unfolding Agreed
@@ -271,4 +265,4 @@ module _ (s : List ℕ) (within anchor room from gap end left at last modifiers 
             let f = re (is-so r rx) class (at + gap) c (known-below s class anchor room end stop k) in
             sym (on cell ce l ag (into-not l kind p x) class c k ∙ simp (x, f)) ∙ inv class own c k
 
-pub ruleset clean-laws = (c-floor, c-start, c-done, c-less, c-within, c-over, c-over-count, counted-none)
+pub ruleset clean-laws = (c-floor, c-start, c-done, t-less, t-within, c-over, c-over-count, counted-none)

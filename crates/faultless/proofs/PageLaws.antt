@@ -88,12 +88,6 @@ module _ (s : List ℕ) (from end : ℕ) where
     r-done h x w class own c = sym (inv w class own c) ∙ simp (row-done s at end h)
 
     module _ (go : at < end) (h : Head) (is : h ≡ headAt s at end) (t start stop : ℕ) (e : h ≡ Tlv t start stop) where
-      pub r-less : end - stop < end - at
-      r-less = let b = head-tlv s at end (sym is ∙ e) in omega arith
-
-      pub r-within : stop ≤ end
-      r-within = let b = head-tlv s at end (sym is ∙ e) in omega arith
-
       module _ (units modifiers : ℕ) (u : Counted 0x0A s 0 from 64 at units) (m : Counted 0x08 s 0 from 32 at modifiers) where
         module _ (cell : ℕ) (ce : cell ≡ cellOf pageKind t) (l : Look) (ag : (l ≡ Fault → ⊥) → Agreed s pageKind end 0 units modifiers last cell at t start stop 6 l) (n : l ≡ Fault → ⊥) where
           admitted : Admitted end 0 units modifiers at t
@@ -173,7 +167,7 @@ module _ (s : List ℕ) (from end : ℕ) where
                 let f = re (is-so r rx) class at c (omega arith) (λ y z. unseen-here s from end at slots un go h is t start stop e slot se w y z) in
                 sym (on cell ce l ag (into-not l kind p x) class c ∙ simp (x, f)) ∙ inv w class o c
 
-pub ruleset page-row-laws = (r-start, r-done, r-less, counted-none, unseen-start, length-replicate)
+pub ruleset page-row-laws = (r-start, r-done, counted-none, unseen-start, length-replicate)
 
 module _ (s : List ℕ) (stop : ℕ) (all : length s ≤ stop) (b : Bool) (be : b ≡ lacks wholeKind stop (tlvs (gapOf wholeKind) s 0 stop)) (bx : b ≡ false)
     (h : Head) (is : h ≡ headAt s 0 stop) (t start end : ℕ) (e : h ≡ Tlv t start end) (y : end ≡ stop) (cell : ℕ) (ce : cell ≡ cellOf wholeKind t)

@@ -10,7 +10,7 @@ use Rattle.leaf.proofs.Cases.{was}
 use Rattle.tlv.proofs.Bounds.{head-tlv}
 use Rattle.rules.specs.Loader.{walk as walkOf}
 use Rattle.classes.proofs.LookLaws.{look-into}
-use Rattle.classes.proofs.WalkLaws.{Left, walk-laws, w-within, w-fine}
+use Rattle.classes.proofs.WalkLaws.{Left, walk-laws, t-within, w-fine}
 use Rattle.classes.proofs.+walk.{statement}
 use Rattle.classes.proofs.+walk.Tie.{close}
 use Rattle.classes.proofs.walk.Reads as walk
@@ -135,7 +135,7 @@ walk-loop-again-2 t c =
     let i = l .before .loop .inv .1 in
     let g = l .loop-test .taken in
     let m = c .before .before .before .before .before .before in (
-      w-within _ _ _ _ _ _ _ _ _ _ i g _ (f .head-at .ensures) _ _ _ (k .t .given .1),
+      t-within _ _ _ _ _ (f .head-at .ensures) _ _ _ (k .t .given .1),
       w-fine _ _ _ _ _ _ _ _ _ _ i g _ (f .head-at .ensures) _ _ _ (k .t .given .1) _ (m .before .cell-for .ensures) _ (m .look-at .ensures)
           _ _ (c .before .before .before .before .kind .given .1) _ (c .before .before .walk .ensures) (c .enum-told4 .given .1),
     )

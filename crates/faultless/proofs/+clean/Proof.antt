@@ -17,9 +17,10 @@ use Rattle.faultless.proofs.left_after.Reads as left-after-reads
 use Rattle.tlv.proofs.head_at.Reads as head-at-reads
 use Rattle.leaf.proofs.Cases.{was}
 use Rattle.tlv.proofs.Bounds.{head-tlv}
+use Rattle.classes.proofs.WalkLaws.{t-within}
 use Rattle.faultless.proofs.Front.{Counted}
 use Rattle.forms.proofs.SoundLaws.{never}
-use Rattle.faultless.proofs.CleanLaws.{agreed-in, Rest, clean-laws, c-within, c-into, c-into-count}
+use Rattle.faultless.proofs.CleanLaws.{agreed-in, Rest, clean-laws, c-into, c-into-count}
 use Rattle.faultless.proofs.+clean.{statement}
 use Rattle.faultless.proofs.+clean.Tie.{close}
 
@@ -140,7 +141,7 @@ clean-loop-again-2 t c =
     let g = l .loop-test .taken in
     let m = c .before .before .before .before .before in
     let x = c .before .before .before .kind .given .1 in (
-      c-within _ _ _ _ _ _ _ _ _ _ _ (i .1) (i .2) g _ (f .head-at .ensures) _ _ _ (k .t .given .1),
+      t-within _ _ _ _ _ (f .head-at .ensures) _ _ _ (k .t .given .1),
       c-into _ _ _ _ _ _ _ _ _ _ _ (i .1) (i .2) g _ (f .head-at .ensures) _ _ _ (k .t .given .1) _ (m .before .before .cell-of .ensures) _ (m .clean-look .ensures)
           _ _ x _ (c .before .clean .ensures) (c .if3 .left),
       c-into-count _ _ _ _ _ _ _ _ _ _ _ (i .1) (i .2) g _ (f .head-at .ensures) _ _ _ (k .t .given .1) _ (m .before .before .cell-of .ensures) _ (m .clean-look .ensures)

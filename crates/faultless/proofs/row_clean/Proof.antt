@@ -6,13 +6,13 @@ use mathlib.Core.Path.{_≡_}
 use native.Mathlib.Omega.{arith}
 use borrow.Author.Needs.{needs}
 use Rattle.rules.specs.Tlvs.{tlvs, count}
-use Rattle.tlv.proofs.Bounds.{next-laws, head-tlv}
+use Rattle.tlv.proofs.Bounds.{next-laws, next-within, head-tlv}
 use Rattle.leaf.proofs.Cases.{was}
 use Rattle.faultless.proofs.Front.{Counted}
 use Rattle.forms.proofs.SoundLaws.{never}
 use Rattle.faultless.proofs.CleanLaws.{agreed-in}
 use Rattle.faultless.proofs.SlotLaws.{Unseen, unseen-on}
-use Rattle.faultless.proofs.PageLaws.{Rest, page-row-laws, r-within, r-over, r-over-units, r-over-modifiers, r-into, r-into-units, r-into-modifiers}
+use Rattle.faultless.proofs.PageLaws.{Rest, page-row-laws, r-over, r-over-units, r-over-modifiers, r-into, r-into-units, r-into-modifiers}
 use Rattle.faultless.proofs.row_clean.Statement.{statement}
 use Rattle.faultless.proofs.row_clean.Tie as tie
 
@@ -111,7 +111,7 @@ loop-again c =
     let a = m .clean-look .ensures in
     let n = m .before .anchor-slot .ensures in
     let x = c .enum-told3 .given .1 in (
-      r-within _ _ _ _ _ (i .1) g _ h _ _ _ e,
+      next-within _ _ _ _ h _ _ _ e _ (omega arith),
       r-over _ _ _ _ _ (i .1) g _ h _ _ _ e _ _ (i .2) (i .3) _ o _ a x,
       r-over-units _ _ _ _ _ (i .1) g _ h _ _ _ e _ _ (i .2) (i .3) _ o _ a x _ (m .before .before .before .left-after .ensures),
       r-over-modifiers _ _ _ _ _ (i .1) g _ h _ _ _ e _ _ (i .2) (i .3) _ o _ a x _ (m .before .before .left-after2 .ensures),
@@ -137,7 +137,7 @@ loop-again-2 c =
     let a = m .clean-look .ensures in
     let n = m .before .anchor-slot .ensures in
     let x = c .before .before .before .kind .given .1 in (
-      r-within _ _ _ _ _ (i .1) g _ h _ _ _ e,
+      next-within _ _ _ _ h _ _ _ e _ (omega arith),
       r-into _ _ _ _ _ (i .1) g _ h _ _ _ e _ _ (i .2) (i .3) _ o _ a _ _ x _ _ (i .4) (i .5) _ (i .6) _ (n .0) _ (c .before .part-clean .ensures) (c .if3 .left),
       r-into-units _ _ _ _ _ (i .1) g _ h _ _ _ e _ _ (i .2) (i .3) _ o _ a _ _ x _ (m .before .before .before .left-after .ensures),
       r-into-modifiers _ _ _ _ _ (i .1) g _ h _ _ _ e _ _ (i .2) (i .3) _ o _ a _ _ x _ (m .before .before .left-after2 .ensures),
