@@ -1,3 +1,4 @@
 pub mod Every
+pub mod Keys
 pub mod Tables
 pub mod RowLaws

@@ -1,4 +1,4 @@
--- The ways through `class_fault` and `judge`, in the shape of their needs.
+-- The ways through `judge`, in the shape of its needs.
 -- Assumes nothing.
 use Prim.Native.Nat.{ℕ, _+_, _≤_, _<_}
 use mathlib.Core.Bool.{Bool, true}
@@ -15,22 +15,10 @@ use Rattle.rules.specs.declared.Found.{Found}
 use Rattle.rules.specs.declared.Found.the-variants.{Fine, At}
 use Rattle.rules.specs.declared.Judged.{Judged}
 use Rattle.rules.specs.declared.Judged.the-variants.{Accepted, Rejected}
-use Rattle.rules.specs.Grammar.{wholeKind}
 use Rattle.rules.specs.Page.{pageHead}
-use Rattle.rules.specs.Loader.{orThen, walk, after, classFault, classes, orRejected, judgeBy, judgeHead, judge}
+use Rattle.rules.specs.Loader.{classFault, classes, orRejected, judgeBy, judgeHead, judge}
 use Rattle.page.proofs.Spans.{page-stop}
-use Rattle.loader.specs.Clean.{PageClean}
-
-module _ (s : List ℕ) (class stop : ℕ) (r : Found) (e : r ≡ walk 8 s class wholeKind 0 0 stop) where
-  pub class-at : (p : ℕ) → r ≡ At p → At p ≡ classFault s class stop
-  unfolding classFault orThen
-  class-at p x = simp (sym e ∙ x)
-
-  pub class-after : r ≡ Fine → (q : Found) → q ≡ after s class stop → q ≡ classFault s class stop
-  unfolding classFault orThen
-  class-after x q f = f ∙ simp (sym e ∙ x)
-
-pub ruleset class-laws = (class-at, class-after)
+use Rattle.faultless.specs.Clean.{PageClean}
 
 -- the classes from the i-th on come to w
 abbrev pub Left : List ℕ → ℕ → ℕ → Judged → Type 0
@@ -75,6 +63,12 @@ module _ (s : List ℕ) where
         unfolding judge judgeHead
         all = simp (ne-eqb (length s) 0 a, le-ltb 4096 (length s) b, sym is ∙ e)
 
+        pub j-clean : (b : Bool) → (b ≡ true → PageClean s stop) → b ≡ true → Accepted ≡ judge s
+        unfolding PageClean classes judgeBy orRejected
+        j-clean b be bx =
+            let none : (class : ℕ) → 2 ≤ class → classFault s class stop ≡ Fine = be bx in
+            sym (simp (none 2 (omega arith), none 3 (omega arith), none 4 (omega arith), none 5 (omega arith), none 6 (omega arith), none 7 (omega arith))) ∙ all
+
         module _ (j : Judged) (f : j ≡ judgeBy s (2 ∷ 3 ∷ []) stop) where
           pub j-structure : (class p : ℕ) → j ≡ Rejected class p → Rejected class p ≡ judge s
           unfolding classes judgeBy
@@ -83,12 +77,6 @@ module _ (s : List ℕ) where
           pub j-start : j ≡ Accepted → Left s stop 2 (judge s)
           unfolding classes judgeBy
           j-start x = sym (two-accepted (classFault s 2 stop) (classFault s 3 stop) _ (sym f ∙ x)) ∙ all
-
-          pub j-clean : j ≡ Accepted → (b : Bool) → (b ≡ true → PageClean s stop) → b ≡ true → Accepted ≡ judge s
-          unfolding PageClean classes judgeBy orRejected classFault orThen after
-          j-clean x b be bx =
-              let no : (class : ℕ) → 4 ≤ class → walk 8 s class wholeKind 0 0 stop ≡ Fine = be bx in
-              sym (simp (no 4 (omega arith), no 5 (omega arith), no 6 (omega arith), no 7 (omega arith))) ∙ j-start x
 
 module _ (s : List ℕ) (stop i : ℕ) (w : Judged) (inv : Left s stop i w) where
   pub j-accepted : length classes ≤ i → Accepted ≡ w

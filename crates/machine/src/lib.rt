@@ -12,18 +12,16 @@ use rules::Told;
 use state::State;
 ghost use mathlib.Core.Path.{_≡_};
 ghost use mathlib.Core.Bool.{true, false, cond};
-ghost use Prim.Native.Nat.{_≤_};
-ghost use lib.ListN.{length, take};
+ghost use lib.ListN.{take};
 ghost use lib.Dec.{eqb};
 ghost use Rattle.rules.specs.declared.Outcome.the-variants.{Refused};
 ghost use Rattle.rules.specs.declared.Refusal.the-variants.{State as NoCard};
 ghost use Rattle.rules.specs.Page.{codeAt};
 ghost use Rattle.word.specs.Word.{isMarked};
 ghost use Rattle.rules.specs.Card.{created};
-ghost use Rattle.rules.specs.Calls.{setEnvironment, load, step, runUpTo, respond, end, readVariable, told, loaded, taken, ran, responded, shown, referenceAfter, tagOf, goesOn, steps, hidden};
+ghost use Rattle.rules.specs.Calls.{setEnvironment, load, step, runUpTo, respond, end, readVariable, told, loaded, taken, ran, responded, shown, referenceAfter, tagOf, hidden};
 ghost use Rattle.state.specs.State.{Is, card};
 ghost use Rattle.machine.specs.Meets.{Meets};
-ghost use Rattle.machine.specs.Steps.{Ready, Counts};
 
 // A card's state, handed from call to call.
 pub struct Machine {
@@ -102,47 +100,6 @@ fn tag_at(page: &[u8; 4096], len: usize, unit: usize, place: usize) -> u8
         return 0;
     };
     tag
-}
-
-// Any outcome but gone on ends a run.
-fn stops(outcome: Outcome) -> bool
-    ensures { λ r. ⌜ r ≡ cond (goesOn outcome) false true ⌝ }
-{
-    match outcome {
-        Outcome::On => false,
-        Outcome::Command(n) => true,
-        Outcome::Page => true,
-        Outcome::Ended => true,
-        Outcome::Refused(why) => true,
-    }
-}
-
-// Up to n steps of a page that runs; number 35 and 33 are past.
-fn take_steps(state: State, most: usize, out: &mut [u8]) -> Gone
-    requires { ⌜ Ready state × (255 ≤ length (now out)) ⌝ }
-    ensures { λ r. ⌜ Counts r (now (out .entry)) (now (out .exit)) (steps most 0 (card state)) ⌝ }
-{
-    let mut after = state;
-    let mut count: usize = 0;
-    while count < most {
-        let moved = stepping::take_step(after, out);
-        let outcome = moved.outcome;
-        after = moved.state;
-        count = count + 1;
-        if stops(outcome) {
-            return Gone {
-                machine: Machine { state: after },
-                ran: Ran { outcome, count },
-            };
-        }
-    }
-    Gone {
-        machine: Machine { state: after },
-        ran: Ran {
-            outcome: Outcome::On,
-            count,
-        },
-    }
 }
 
 // No step of a run was taken.
@@ -265,9 +222,10 @@ impl Machine {
             if is_ready(self.state.len, &self.state.hand) {
                 let unit = self.state.unit;
                 let tag = tag_at(&self.state.page, self.state.len, unit, self.state.place);
-                let moved = stepping::take_step(self.state, out);
-                let next = moved.state;
-                let outcome = moved.outcome;
+                let course = running::take_steps(self.state, 1, out);
+                let next = course.state;
+                let ran = course.ran;
+                let outcome = ran.outcome;
                 return Taken {
                     machine: Machine { state: next },
                     stepped: Stepped { outcome, unit, tag },
@@ -293,7 +251,13 @@ impl Machine {
         }
         if sound::is_sound(self.state) {
             if is_ready(self.state.len, &self.state.hand) {
-                return take_steps(self.state, most, out);
+                let course = running::take_steps(self.state, most, out);
+                let last = course.state;
+                let ran = course.ran;
+                return Gone {
+                    machine: Machine { state: last },
+                    ran,
+                };
             }
             return no_run(self, Refusal::Call);
         }

@@ -50,7 +50,7 @@ fn code_low(why: Refusal) -> u8
 }
 
 // Variable '05' becomes the code of a refusal.
-fn note_refusal(environment: &mut [u8; 16640], why: Refusal)
+pub fn note_refusal(environment: &mut [u8; 16640], why: Refusal)
     ensures { λ _. ⌜ slots (now (environment .exit)) ≡ set (slots (now (environment .entry))) 5 (held 3 (code why)) ⌝ }
     ensures { λ _. ⌜ (tidySlots (now (environment .entry)) ≡ true → tidySlots (now (environment .exit)) ≡ true) ⌝ }
 {

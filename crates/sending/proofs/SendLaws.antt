@@ -41,6 +41,14 @@ use Rattle.storing.specs.Why.{whyOf}
 use Rattle.storing.proofs.StoreLaws.{page-is, view-is, unless-free, unless-wrong}
 use Rattle.sending.specs.Sent.{Sends}
 
+-- the text of a command that fits is the command
+pub text-is : (s env temp perm : List ℕ) (tag start stop n : ℕ) → n ≡ length (command (view s env temp perm) (executeOf s tag start stop)) → n ≤ 255 → (b bytes w : List ℕ) → bytes ≡ into b (command (view s env temp perm) (executeOf s tag start stop)) → w ≡ part bytes 0 n
+    → w ≡ command (view s env temp perm) (executeOf s tag start stop)
+unfolding into poured
+text-is s env temp perm tag start stop n e h b bytes w g i =
+    let j : ltb 255 (length (command (view s env temp perm) (executeOf s tag start stop))) ≡ false = rw (← e) (le-ltb _ _ h) in
+    i ∙ part-start bytes n ∙ rw (g, e, j) (take-append-seam (command (view s env temp perm) (executeOf s tag start stop)) (drop (length (command (view s env temp perm) (executeOf s tag start stop))) (drop 0 b)))
+
 module _ (m : State) (c : Card) (is : Is m c) where
   pub send-is : (w hand before after : List ℕ) → length w ≤ 255 → hand ≡ laidMarked 257 w → after ≡ poured before 0 w
       → Sends (record { state = record { page = m .page; len = m .len; environment = m .environment; temporary = m .temporary; permanent = m .permanent; trail = m .trail; guard = m .guard; hand = hand; wanted = m .wanted; unit = m .unit; place = m .place }; outcome = Command (length w) }) before after (moved c (send w))
@@ -80,7 +88,7 @@ module _ (m : State) (c : Card) (is : Is m c) where
   refused-out ok before o why f = record { comes = f c is ok; buffer = refl }
 
   module _ (ok : judge (c .run .page) ≡ Accepted) (tag start stop : ℕ) (before : List ℕ) (o : Moved) (s : List ℕ) (p : s ≡ take (m .len) (m .page)) where
-    command-is : command (view s (m .environment) (m .temporary) (m .permanent)) (executeOf s tag start stop) ≡ command c (executeOf (c .run .page) tag start stop)
+    pub command-is : command (view s (m .environment) (m .temporary) (m .permanent)) (executeOf s tag start stop) ≡ command c (executeOf (c .run .page) tag start stop)
     command-is = rw (← view-is m c is s p, page-is m c is s p) (bare-command c (executeOf (c .run .page) tag start stop))
 
     module _ (n : ℕ) (e : n ≡ length (command (view s (m .environment) (m .temporary) (m .permanent)) (executeOf s tag start stop))) where
@@ -91,11 +99,10 @@ module _ (m : State) (c : Card) (is : Is m c) where
 
       pub issue-sent : n ≤ 255 → (b bytes w after : List ℕ) → bytes ≡ into b (command (view s (m .environment) (m .temporary) (m .permanent)) (executeOf s tag start stop)) → w ≡ part bytes 0 n
           → ((d : Card) → Is m d → Sends o before after (moved d (send w))) → Sends o before after (applied c (cond (ltb 255 (length (command c (executeOf (c .run .page) tag start stop)))) (refuses Memory) (does c (send (command c (executeOf (c .run .page) tag start stop))))))
-      unfolding applied into poured
+      unfolding applied
       issue-sent h b bytes w after g i f =
           let k : ltb 255 (length (command c (executeOf (c .run .page) tag start stop))) ≡ false = rw (← command-is, ← e) (le-ltb _ _ h) in
-          let j : ltb 255 (length (command (view s (m .environment) (m .temporary) (m .permanent)) (executeOf s tag start stop))) ≡ false = rw (← e) (le-ltb _ _ h) in
-          let v : w ≡ command c (executeOf (c .run .page) tag start stop) = i ∙ part-start bytes n ∙ rw (g, e, j) (take-append-seam (command (view s (m .environment) (m .temporary) (m .permanent)) (executeOf s tag start stop)) (drop (length (command (view s (m .environment) (m .temporary) (m .permanent)) (executeOf s tag start stop))) (drop 0 b)) ∙ command-is) in
+          let v : w ≡ command c (executeOf (c .run .page) tag start stop) = text-is s (m .environment) (m .temporary) (m .permanent) tag start stop n e h b bytes w g i ∙ command-is in
           rw (k, ← v) (f c is)
 
     module _ (a : Bool) (e : a ≡ allowedBy (getD s (typeAt (executeOf s tag start stop)) 0) (getD (slots (m .environment)) 2 free)) where

@@ -3,3 +3,4 @@ pub mod PageLaws
 pub mod CreateLaws
 pub mod RestLaws
 pub mod Canonical
+pub mod Changes

@@ -88,7 +88,7 @@ unless-wrong Undefined p e = refl
 unless-wrong Secured p e = refl
 unless-wrong Misused p e = refl
 
-bare-setting : (c : Card) (known : List ℕ) (row : Tlvs) → settingComplaint (bare c) known row ≡ settingComplaint c known row
+pub bare-setting : (c : Card) (known : List ℕ) (row : Tlvs) → settingComplaint (bare c) known row ≡ settingComplaint c known row
 unfolding settingComplaint bare seen numberBefore writing
 bare-setting c known (done p) = refl
 bare-setting c known (past p) = refl

@@ -106,7 +106,7 @@ fn list_at(page: &[u8], at: usize, stop: usize) -> Span
 }
 
 // What is wrong with a Get Length: its number is written, the variables of its list are read.
-fn length_complaint<'a>(
+pub fn length_complaint<'a>(
     page: &'a [u8],
     env: &'a [u8; 16640],
     temp: &'a [u8; 16640],

@@ -31,23 +31,23 @@ enum-told c = search needs
 returns-3 : tie.Need-returns-3 Inv-loop μ-loop
 returns-3 c = search (needs, judge-laws)
 
+page-clean-requires : tie.Need-page-clean-requires Inv-loop μ-loop
+page-clean-requires c κs = search (needs, judge-laws)
+
+returns-4 : tie.Need-returns-4 Inv-loop μ-loop
+returns-4 c = search (needs, judge-laws)
+
 structure-requires : tie.Need-structure-requires Inv-loop μ-loop
 structure-requires c κs = search (needs, judge-laws)
 
 enum-known-class : tie.Need-enum-known-class Inv-loop μ-loop
 enum-known-class c = search needs
 
-returns-4 : tie.Need-returns-4 Inv-loop μ-loop
-returns-4 c = search (needs, judge-laws)
+returns-5 : tie.Need-returns-5 Inv-loop μ-loop
+returns-5 c = search (needs, judge-laws)
 
 enum-told-2 : tie.Need-enum-told-2 Inv-loop μ-loop
 enum-told-2 c = search needs
-
-page-clean-requires : tie.Need-page-clean-requires Inv-loop μ-loop
-page-clean-requires c κs = search (needs, judge-laws)
-
-returns-5 : tie.Need-returns-5 Inv-loop μ-loop
-returns-5 c = search (needs, judge-laws)
 
 loop-holds : tie.Need-loop-holds Inv-loop μ-loop
 loop-holds c = search (needs, judge-laws)
@@ -94,12 +94,12 @@ judge-spec =
     enum-known-stop
     enum-told
     returns-3
+    page-clean-requires
+    returns-4
     structure-requires
     enum-known-class
-    returns-4
-    enum-told-2
-    page-clean-requires
     returns-5
+    enum-told-2
     loop-holds
     array-read-class
     class-fault-requires

@@ -1,0 +1,4 @@
+pub mod Front
+pub mod CleanLaws
+pub mod SlotLaws
+pub mod PageLaws

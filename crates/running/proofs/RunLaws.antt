@@ -1,0 +1,359 @@
+-- A run, in the shape of what its proof needs.
+-- Assumes nothing.
+use Prim.Native.Nat.{ℕ, zero, suc, _+_, _-_, _≤_, _<_}
+use mathlib.Core.Bool.{Bool, true, false, cond, true≢false, false≢true}
+use mathlib.Core.List.{List, [], _∷_}
+use mathlib.Core.Path.{_≡_, refl, sym, ap, _∙_}
+use native.Mathlib.Omega.{arith}
+use lib.ListN.{length, take, set}
+use lib.Dec.{ltb}
+use borrow.Author.Tests.{le-ltb}
+use Rattle.pour.specs.Pour.{blank, poured}
+use Rattle.rules.specs.declared.Outcome.{Outcome}
+use Rattle.rules.specs.declared.Outcome.the-variants.{On, Command, Page, Ended, Refused}
+use Rattle.rules.specs.declared.Refusal.the-variants.{Memory}
+use Rattle.rules.specs.declared.Judged.the-variants.{Accepted}
+use Rattle.rules.specs.Numbers.{code, noError}
+use Rattle.rules.specs.Bytes.{part, hex, hexTo}
+use Rattle.rules.specs.Tlvs.{tlvs}
+use Rattle.rules.specs.Pieces.{named}
+use Rattle.rules.specs.Loader.{judge}
+use Rattle.rules.specs.Page.{service, entryOf, keepList, password, bytesOf}
+use Rattle.rules.specs.Card.{Card, Hand, empty, byCode, held, isEmpty, withRun, withHistory, withEnvironment}
+use Rattle.rules.specs.Trail.{left}
+use Rattle.rules.specs.Store.{wrote, noRoom, write}
+use Rattle.rules.specs.Value.{joined, shortest}
+use Rattle.rules.specs.Command.{executeOf, command}
+use Rattle.rules.specs.Keep.{keptBy, guardBy, rested}
+use Rattle.rules.specs.Step.{effect, marked, placed, entered, leaving, failed, onwards, send, moved, refuses, applied, setAll, decide, stepped}
+use Rattle.rules.specs.Calls.{bufferAfter, Counted, goesOn, steps}
+use Rattle.rules.proofs.StaysCardStep.{Running, card-running, stepped-card, empty-page}
+use Rattle.slots.specs.Slots.{slots, tidySlots}
+use Rattle.records.specs.Records.{tidyRecords}
+use Rattle.trail.specs.Trail.{historyOf, tidyTrail}
+use Rattle.word.specs.Word.{laidMarked, guardOf, tidyGuard}
+use Rattle.variable.specs.View.{view}
+use Rattle.leaving.specs.Leaving.{entryFor, leftBy}
+use Rattle.leaving.proofs.Accepted.{accepted-service, accepted-password, left-by}
+use Rattle.state.specs.declared.State.{State}
+use Rattle.state.specs.State.{Is, card, runOf, pageOf}
+use Rattle.state.proofs.Canonical.{is-card}
+use Rattle.state.proofs.RestLaws.{rest-is}
+use Rattle.state.proofs.Changes.{new-environment, new-history, new-place}
+use Rattle.storing.proofs.StoreLaws.{view-is, set-done, set-full, length-done, length-full}
+use Rattle.moving.specs.declared.Moved.{Moved}
+use Rattle.moving.specs.Moved.{Comes}
+use Rattle.sending.specs.Sent.{Sends}
+use Rattle.sending.proofs.SendLaws.{send-is, command-is, issue-long}
+use Rattle.stepping.proofs.GoesOn.{stepped-on}
+use Rattle.ways.specs.declared.Way.{Way}
+use Rattle.ways.specs.declared.Way.the-variants.{Enter, Place, End, Store, Length, Send}
+use Rattle.ways.specs.Way.{wayAt, issued, Plans, Inside}
+use Rattle.ways.proofs.Steps.{way-plans}
+use Rattle.ways.proofs.Bounds.{way-inside}
+use Rattle.running.specs.Course.{laid, commandOf, Ready, Counts}
+
+pub ready-served : (m : State) → Ready m → length (service (take (m .len) (m .page))) ≤ 16
+unfolding card runOf pageOf
+ready-served m r = accepted-service (take (m .len) (m .page)) (r .runs .accepted)
+
+filled : (s : List ℕ) → judge s ≡ Accepted → length s ≡ 0 → ⊥
+filled [] e z = empty-page e
+filled (x ∷ xs) e z = absurd (omega arith)
+
+quiet : (c : Card) (b : List ℕ) (o : Outcome) → goesOn o ≡ true → bufferAfter b c o ≡ b
+unfolding goesOn bufferAfter
+quiet c b On e = refl
+quiet c b (Command n) e = absurd (false≢true e)
+quiet c b Page e = absurd (false≢true e)
+quiet c b Ended e = absurd (false≢true e)
+quiet c b (Refused r) e = absurd (false≢true e)
+
+one-less : (n k : ℕ) → k < n → n - k ≡ suc (n - (k + 1))
+one-less n k h = omega arith
+
+-- what a state is for certain, it is
+on-card : (m : State) (c : Card) → Is m c → Is m (card m)
+on-card m c is = rw (is-card m c is) is
+
+goes : (b : Bool) → cond b false true ≡ false → b ≡ true
+goes true e = refl
+goes false e = absurd (true≢false e)
+
+ends : (b : Bool) → cond b false true ≡ true → b ≡ false
+ends true e = absurd (false≢true e)
+ends false e = refl
+
+pub steps-start : (n : ℕ) (c : Card) → steps (n - 0) 0 c ≡ steps n 0 c
+steps-start n c = let z : n - 0 ≡ n = omega arith in rw z refl
+
+-- no command in hand
+idle-hand : (h : Hand) → isEmpty h ≡ true → h ≡ empty
+unfolding isEmpty
+idle-hand empty e = refl
+idle-hand (byCode b) e = absurd (false≢true e)
+
+-- the state after a step, and the card that it is
+module _ (m : State) (c : Card) (is : Is m c) (environment : List ℕ) (t : tidySlots (m .environment) ≡ true → tidySlots environment ≡ true) where
+  noted-as : (bytes : List ℕ) → slots environment ≡ set (slots (m .environment)) 5 (held 3 bytes) → Is (record { page = m .page; len = m .len; environment = environment; temporary = m .temporary; permanent = m .permanent; trail = m .trail; guard = m .guard; hand = m .hand; wanted = m .wanted; unit = m .unit; place = m .place }) (marked bytes c)
+  unfolding marked
+  noted-as bytes e = new-environment m c is environment _ (rw (is .environment) at e) (t (is .tidyEnvironment))
+
+  module _ (e : slots environment ≡ set (slots (m .environment)) 5 (held 3 (0 ∷ 0 ∷ []))) where
+    noted : Is (record { page = m .page; len = m .len; environment = environment; temporary = m .temporary; permanent = m .permanent; trail = m .trail; guard = m .guard; hand = m .hand; wanted = m .wanted; unit = m .unit; place = m .place }) (marked noError c)
+    unfolding noError hex hexTo
+    noted = noted-as (0 ∷ 0 ∷ []) e
+
+    module _ (idle : c .run .hand ≡ empty) where
+      placed-is : (p : ℕ) → Is (record { page = m .page; len = m .len; environment = environment; temporary = m .temporary; permanent = m .permanent; trail = m .trail; guard = m .guard; hand = m .hand; wanted = m .wanted; unit = m .unit; place = p }) (placed (marked noError c) p)
+      unfolding placed marked withEnvironment withRun
+      placed-is p = rw (← is .unit) (new-place _ (marked noError c) noted (m .hand) empty (m .unit) p (is .hand ∙ idle) (is .tidyHeld))
+
+      module _ (ok : judge (c .run .page) ≡ Accepted) (trail : List ℕ) (h : judge (take (m .len) (m .page)) ≡ Accepted → historyOf trail ≡ leftBy (entryFor (take (m .len) (m .page)) (m .unit)) (historyOf (m .trail))) (u : tidyTrail (m .trail) ≡ true → tidyTrail trail ≡ true) where
+        left-is : Is (record { page = m .page; len = m .len; environment = environment; temporary = m .temporary; permanent = m .permanent; trail = trail; guard = m .guard; hand = m .hand; wanted = m .wanted; unit = m .unit; place = m .place }) (leaving (marked noError c))
+        unfolding leaving marked withEnvironment pageOf
+        left-is =
+            let g : historyOf trail ≡ left (c .run .page) (c .run .unit) (c .history) = (rw (is .page, is .unit, is .history) at h) ok ∙ left-by (c .run .page) (c .run .unit) (c .history) in
+            new-history _ (marked noError c) noted trail _ g (u (is .tidyHistory))
+
+        entered-is : (s : List ℕ) → s ≡ take (m .len) (m .page) → (k place : ℕ) → place ≡ entryOf s k → Is (record { page = m .page; len = m .len; environment = environment; temporary = m .temporary; permanent = m .permanent; trail = trail; guard = m .guard; hand = m .hand; wanted = m .wanted; unit = k; place = place }) (entered (leaving (marked noError c)) k)
+        unfolding entered leaving marked withHistory withEnvironment pageOf
+        entered-is s p k place q =
+            rw (← rw (p ∙ is .page) at q) (new-place _ (leaving (marked noError c)) left-is (m .hand) empty k place (is .hand ∙ idle) (is .tidyHeld))
+
+-- the page ends: '05' as a byte code leaves it, the keep rule, and a state at rest
+module _ (m : State) (c : Card) (is : Is m c) (ok : judge (c .run .page) ≡ Accepted) (environment : List ℕ) (t : tidySlots (m .environment) ≡ true → tidySlots environment ≡ true)
+    (temporary : List ℕ) (kept : slots temporary ≡ keptBy (take (m .len) (m .page)) (keepList (take (m .len) (m .page))) (slots (m .temporary))) (u : tidySlots (m .temporary) ≡ true → tidySlots temporary ≡ true)
+    (guard : List ℕ) (guarded : length (bytesOf (take (m .len) (m .page)) (password (take (m .len) (m .page)))) ≤ 16 → guardOf guard ≡ guardBy (take (m .len) (m .page)) (password (take (m .len) (m .page)))) (v : tidyGuard (m .guard) ≡ true → tidyGuard guard ≡ true) where
+  abbrev ended : State
+  ended = laid (blank 4096) 0 environment temporary (m .permanent) (m .trail) guard (blank 257) (m .wanted) 0 0
+
+  ended-is : (d : Card) → Is (record { page = m .page; len = m .len; environment = environment; temporary = m .temporary; permanent = m .permanent; trail = m .trail; guard = m .guard; hand = m .hand; wanted = m .wanted; unit = m .unit; place = m .place }) d → d .run .page ≡ c .run .page → Is ended (rested d)
+  ended-is d i e = rest-is _ d i (accepted-password (d .run .page) (rw e ok)) (blank 4096) temporary guard (blank 257) (take (m .len) (m .page)) refl kept u guarded v refl refl
+
+  marked-end : (bytes : List ℕ) → slots environment ≡ set (slots (m .environment)) 5 (held 3 bytes) → Is ended (rested (marked bytes c))
+  unfolding marked withEnvironment
+  marked-end bytes e = ended-is (marked bytes c) (noted-as m c is environment t bytes e) refl
+
+  unmarked-end : slots environment ≡ slots (m .environment) → Is ended (rested c)
+  unfolding withEnvironment
+  unmarked-end e = ended-is c (new-environment m c is environment (c .environment) (e ∙ is .environment) (t (is .tidyEnvironment))) refl
+
+pub run-out : (n k : ℕ) (m : State) (w : Counted) → steps (n - k) k (card m) ≡ w → Ready m → (before : List ℕ) → n ≤ k → k ≤ n → Counts (record { state = m; ran = record { outcome = On; count = k } }) before before w
+unfolding steps bufferAfter
+run-out n k m w inv r before h i =
+    let z : n - k ≡ zero = omega arith in
+    let e : record { count = k; last = effect On (card m) } ≡ w = rw z at inv in
+    rw (← e) (record { outcome = refl; count = refl; state = r .is; buffer = refl })
+
+module _ (n k : ℕ) (m : State) (w : Counted) (inv : steps (n - k) k (card m) ≡ w) (r : Ready m) (h : k < n) where
+  -- the step goes on in a state that is its card
+  module _ (on : goesOn (stepped (card m) .outcome) ≡ true) (o : State) (is : Is o (stepped (card m) .card)) where
+    on-steps : steps (n - (k + 1)) (k + 1) (card o) ≡ w
+    unfolding steps
+    on-steps = rw (is-card o (stepped (card m) .card) is) (rw (one-less n k h, on) at inv)
+
+    on-ready : Ready o
+    on-ready =
+        let e = is-card o (stepped (card m) .card) is in
+        let p = stepped-on (card m) on in
+        let nonempty : length (stepped (card m) .card .run .page) ≡ 0 → ⊥ = λ z. filled (card m .run .page) (r .runs .accepted) (rw (p .0) at z) in
+        record {
+          is = on-card o (stepped (card m) .card) is;
+          runs = rw e (card-running (stepped (card m) .card) (stepped-card (card m) (r .runs)) nonempty .0);
+          idle = rw e (p .1);
+        }
+
+  -- the step ends the run in a state that is its card
+  stops-at : goesOn (stepped (card m) .outcome) ≡ false → (o : State) → Is o (stepped (card m) .card) → (outcome : Outcome) → outcome ≡ stepped (card m) .outcome → (before after : List ℕ) → after ≡ bufferAfter before (stepped (card m) .card) (stepped (card m) .outcome) → Counts (record { state = o; ran = record { outcome = outcome; count = k + 1 } }) before after w
+  unfolding steps
+  stops-at off o is outcome x before after y =
+      let e : record { count = k + 1; last = stepped (card m) } ≡ w = rw (one-less n k h, off) at inv in
+      rw (← e) (record { outcome = x; count = refl; state = is; buffer = y })
+
+  -- a byte code that is done by value
+  module _ (before after : List ℕ) (o : Moved) (f : (d : Card) → Is m d → Running d → Sends o before after (stepped d)) (b : Bool) (x : b ≡ cond (goesOn (o .outcome)) false true) where
+    sent : Sends o before after (stepped (card m))
+    sent = f (card m) (r .is) (r .runs)
+
+    going : goesOn (stepped (card m) .outcome) ≡ goesOn (o .outcome)
+    going = ap goesOn (sym (sent .comes .outcome))
+
+    pub value-stops : b ≡ true → Counts (record { state = o .state; ran = record { outcome = o .outcome; count = k + 1 } }) before after w
+    value-stops t = stops-at (going ∙ ends (goesOn (o .outcome)) (sym x ∙ t)) (o .state) (sent .comes .state) (o .outcome) (sent .comes .outcome) before after (sent .buffer)
+
+    module _ (t : b ≡ false) where
+      on : goesOn (stepped (card m) .outcome) ≡ true
+      on = going ∙ goes (goesOn (o .outcome)) (sym x ∙ t)
+
+      pub value-steps : steps (n - (k + 1)) (k + 1) (card (o .state)) ≡ w
+      value-steps = on-steps on (o .state) (sent .comes .state)
+
+      pub value-ready : Ready (o .state)
+      value-ready = on-ready on (o .state) (sent .comes .state)
+
+      pub value-same : after ≡ before
+      value-same = sent .buffer ∙ quiet (stepped (card m) .card) before (stepped (card m) .outcome) on
+
+  idle : card m .run .hand ≡ empty
+  idle = idle-hand (card m .run .hand) (r .idle)
+
+  -- a step that came to a state in place
+  module _ (o : State) (outcome : Outcome) (k′ : Comes (record { state = o; outcome = outcome }) (stepped (card m))) where
+    pub comes-steps : outcome ≡ On → steps (n - (k + 1)) (k + 1) (card o) ≡ w
+    unfolding goesOn
+    comes-steps x = on-steps (rw (← k′ .outcome, x) refl) o (k′ .state)
+
+    pub comes-ready : outcome ≡ On → Ready o
+    unfolding goesOn
+    comes-ready x = on-ready (rw (← k′ .outcome, x) refl) o (k′ .state)
+
+    pub comes-stops : goesOn outcome ≡ false → (before after : List ℕ) → after ≡ bufferAfter before (stepped (card m) .card) (stepped (card m) .outcome) → Counts (record { state = o; ran = record { outcome = outcome; count = k + 1 } }) before after w
+    comes-stops x before after y = stops-at (rw (← k′ .outcome) x) o (k′ .state) outcome (k′ .outcome) before after y
+
+  -- a byte code that is done in place
+  module _ (way : Way) (e : way ≡ wayAt (view (take (m .len) (m .page)) (m .environment) (m .temporary) (m .permanent)) (m .unit) (m .place)) where
+    plans : Plans (card m) (decide (card m)) way
+    plans = rw e (way-plans (card m) (take (m .len) (m .page)) (m .environment) (m .temporary) (m .permanent) (m .unit) (m .place) (view-is m (card m) (r .is) (take (m .len) (m .page)) refl) (sym (r .is .unit)) (sym (r .is .place)))
+
+    inside : Inside (length (take (m .len) (m .page))) way
+    inside = rw e (way-inside (take (m .len) (m .page)) (m .environment) (m .temporary) (m .permanent) (m .unit) (m .place))
+
+    module _ (environment : List ℕ) (t : tidySlots (m .environment) ≡ true → tidySlots environment ≡ true) where
+      module _ (a : slots environment ≡ set (slots (m .environment)) 5 (held 3 (0 ∷ 0 ∷ []))) where
+        module _ (q : ℕ) (x : way ≡ Place q) where
+          placing : Comes (record { state = record { page = m .page; len = m .len; environment = environment; temporary = m .temporary; permanent = m .permanent; trail = m .trail; guard = m .guard; hand = m .hand; wanted = m .wanted; unit = m .unit; place = q }; outcome = On }) (stepped (card m))
+          unfolding stepped applied moved
+          placing = rw (rw x at plans) (record { outcome = refl; state = placed-is m (card m) (r .is) environment t a idle q })
+
+          pub place-steps : steps (n - (k + 1)) (k + 1) (card (record { page = m .page; len = m .len; environment = environment; temporary = m .temporary; permanent = m .permanent; trail = m .trail; guard = m .guard; hand = m .hand; wanted = m .wanted; unit = m .unit; place = q })) ≡ w
+          place-steps = comes-steps _ On placing refl
+
+          pub place-ready : Ready (record { page = m .page; len = m .len; environment = environment; temporary = m .temporary; permanent = m .permanent; trail = m .trail; guard = m .guard; hand = m .hand; wanted = m .wanted; unit = m .unit; place = q })
+          place-ready = comes-ready _ On placing refl
+
+        module _ (u : ℕ) (x : way ≡ Enter u) (trail : List ℕ) (b : judge (take (m .len) (m .page)) ≡ Accepted → historyOf trail ≡ leftBy (entryFor (take (m .len) (m .page)) (m .unit)) (historyOf (m .trail))) (v : tidyTrail (m .trail) ≡ true → tidyTrail trail ≡ true)
+            (s : List ℕ) (p : s ≡ take (m .len) (m .page)) (place : ℕ) (y : place ≡ entryOf s u) where
+          entering : Comes (record { state = record { page = m .page; len = m .len; environment = environment; temporary = m .temporary; permanent = m .permanent; trail = trail; guard = m .guard; hand = m .hand; wanted = m .wanted; unit = u; place = place }; outcome = On }) (stepped (card m))
+          unfolding stepped applied moved
+          entering = rw (rw x at plans) (record { outcome = refl; state = entered-is m (card m) (r .is) environment t a idle (r .runs .accepted) trail b v s p u place y })
+
+          pub enter-steps : steps (n - (k + 1)) (k + 1) (card (record { page = m .page; len = m .len; environment = environment; temporary = m .temporary; permanent = m .permanent; trail = trail; guard = m .guard; hand = m .hand; wanted = m .wanted; unit = u; place = place })) ≡ w
+          enter-steps = comes-steps _ On entering refl
+
+          pub enter-ready : Ready (record { page = m .page; len = m .len; environment = environment; temporary = m .temporary; permanent = m .permanent; trail = trail; guard = m .guard; hand = m .hand; wanted = m .wanted; unit = u; place = place })
+          enter-ready = comes-ready _ On entering refl
+
+        -- the areas are written, and the step goes on
+        module _ (temporary permanent : List ℕ) (i : tidySlots (m .temporary) ≡ true → tidySlots temporary ≡ true) (j : tidyRecords (m .permanent) ≡ true → tidyRecords permanent ≡ true) (b : Bool) (z : b ≡ true) (s : List ℕ) (p : s ≡ take (m .len) (m .page)) where
+          written : (stop : ℕ) (d : Card) → Is (record { page = m .page; len = m .len; environment = m .environment; temporary = temporary; permanent = permanent; trail = m .trail; guard = m .guard; hand = m .hand; wanted = m .wanted; unit = m .unit; place = m .place }) d → Comes (record { state = record { page = m .page; len = m .len; environment = environment; temporary = temporary; permanent = permanent; trail = m .trail; guard = m .guard; hand = m .hand; wanted = m .wanted; unit = m .unit; place = stop }; outcome = On }) (moved d (onwards stop))
+          unfolding moved
+          written stop d is = record { outcome = refl; state = placed-is _ d is environment t a (sym (is .hand) ∙ (r .is .hand ∙ idle)) stop }
+
+          module _ (start stop : ℕ) (x : way ≡ Store start stop) (f : setAll (tlvs 1 s start stop) (view s (m .environment) (m .temporary) (m .permanent)) ≡ cond b (wrote (view s (m .environment) temporary permanent)) noRoom) where
+            stored : Comes (record { state = record { page = m .page; len = m .len; environment = environment; temporary = temporary; permanent = permanent; trail = m .trail; guard = m .guard; hand = m .hand; wanted = m .wanted; unit = m .unit; place = stop }; outcome = On }) (stepped (card m))
+            unfolding stepped
+            stored = rw (rw x at plans) (set-done m (card m) (r .is) s p (r .runs .accepted) b temporary permanent _ start stop f z i j (written stop))
+
+            pub store-steps : steps (n - (k + 1)) (k + 1) (card (record { page = m .page; len = m .len; environment = environment; temporary = temporary; permanent = permanent; trail = m .trail; guard = m .guard; hand = m .hand; wanted = m .wanted; unit = m .unit; place = stop })) ≡ w
+            store-steps = comes-steps _ On stored refl
+
+            pub store-ready : Ready (record { page = m .page; len = m .len; environment = environment; temporary = temporary; permanent = permanent; trail = m .trail; guard = m .guard; hand = m .hand; wanted = m .wanted; unit = m .unit; place = stop })
+            store-ready = comes-ready _ On stored refl
+
+          module _ (number from to stop : ℕ) (x : way ≡ Length number from to stop) (f : write (view s (m .environment) (m .temporary) (m .permanent)) number 3 (shortest (length (joined (view s (m .environment) (m .temporary) (m .permanent)) (named (part s from to))))) ≡ cond b (wrote (view s (m .environment) temporary permanent)) noRoom) where
+            counted : Comes (record { state = record { page = m .page; len = m .len; environment = environment; temporary = temporary; permanent = permanent; trail = m .trail; guard = m .guard; hand = m .hand; wanted = m .wanted; unit = m .unit; place = stop }; outcome = On }) (stepped (card m))
+            unfolding stepped
+            counted = rw (rw x at plans) (length-done m (card m) (r .is) s p (r .runs .accepted) b temporary permanent _ number from to stop f z i j (written stop))
+
+            pub length-steps : steps (n - (k + 1)) (k + 1) (card (record { page = m .page; len = m .len; environment = environment; temporary = temporary; permanent = permanent; trail = m .trail; guard = m .guard; hand = m .hand; wanted = m .wanted; unit = m .unit; place = stop })) ≡ w
+            length-steps = comes-steps _ On counted refl
+
+            pub length-ready : Ready (record { page = m .page; len = m .len; environment = environment; temporary = temporary; permanent = permanent; trail = m .trail; guard = m .guard; hand = m .hand; wanted = m .wanted; unit = m .unit; place = stop })
+            length-ready = comes-ready _ On counted refl
+
+      -- the page ends, by its own or because there is no room
+      module _ (temporary : List ℕ) (kept : slots temporary ≡ keptBy (take (m .len) (m .page)) (keepList (take (m .len) (m .page))) (slots (m .temporary))) (u : tidySlots (m .temporary) ≡ true → tidySlots temporary ≡ true)
+          (guard : List ℕ) (guarded : length (bytesOf (take (m .len) (m .page)) (password (take (m .len) (m .page)))) ≤ 16 → guardOf guard ≡ guardBy (take (m .len) (m .page)) (password (take (m .len) (m .page)))) (v : tidyGuard (m .guard) ≡ true → tidyGuard guard ≡ true)
+          (o : State) (at : o ≡ laid (blank 4096) 0 environment temporary (m .permanent) (m .trail) guard (blank 257) (m .wanted) 0 0) (before : List ℕ) where
+        marks : (bytes : List ℕ) → slots environment ≡ set (slots (m .environment)) 5 (held 3 bytes) → Is o (rested (marked bytes (card m)))
+        marks bytes a = rw at (marked-end m (card m) (r .is) (r .runs .accepted) environment t temporary kept u guard guarded v bytes a)
+
+        done-by : (done : Bool) → way ≡ End done → slots environment ≡ cond done (set (slots (m .environment)) 5 (held 3 (0 ∷ 0 ∷ []))) (slots (m .environment)) → Comes (record { state = o; outcome = Ended }) (stepped (card m))
+        unfolding stepped applied moved noError hex hexTo
+        done-by true x a = rw (rw x at plans) (record { outcome = refl; state = marks (0 ∷ 0 ∷ []) a })
+        done-by false x a = rw (rw x at plans) (record { outcome = refl; state = rw at (unmarked-end m (card m) (r .is) (r .runs .accepted) environment t temporary kept u guard guarded v a) })
+
+        pub end-counts : (done : Bool) → way ≡ End done → slots environment ≡ cond done (set (slots (m .environment)) 5 (held 3 (0 ∷ 0 ∷ []))) (slots (m .environment)) → Counts (record { state = o; ran = record { outcome = Ended; count = k + 1 } }) before before w
+        unfolding goesOn bufferAfter
+        end-counts done x a = let z = done-by done x a in comes-stops o Ended z refl before before (rw (← z .outcome) refl)
+
+        module _ (a : slots environment ≡ set (slots (m .environment)) 5 (held 3 (code Memory))) where
+          full : Comes (record { state = o; outcome = Refused Memory }) (applied (card m) (refuses Memory))
+          unfolding applied failed
+          full = record { outcome = refl; state = marks (code Memory) a }
+
+          full-for : (d : Card) → Is m d → judge (d .run .page) ≡ Accepted → Comes (record { state = o; outcome = Refused Memory }) (applied d (refuses Memory))
+          full-for d is ok = rw (← is-card m d is) full
+
+          full-counts : Comes (record { state = o; outcome = Refused Memory }) (stepped (card m)) → Counts (record { state = o; ran = record { outcome = Refused Memory; count = k + 1 } }) before before w
+          unfolding goesOn bufferAfter
+          full-counts z = comes-stops o (Refused Memory) z refl before before (rw (← z .outcome) refl)
+
+          module _ (b : Bool) (z : b ≡ false) (s : List ℕ) (p : s ≡ take (m .len) (m .page)) (t′ q′ : List ℕ) where
+            pub store-full : (start stop : ℕ) → way ≡ Store start stop → setAll (tlvs 1 s start stop) (view s (m .environment) (m .temporary) (m .permanent)) ≡ cond b (wrote (view s (m .environment) t′ q′)) noRoom → Counts (record { state = o; ran = record { outcome = Refused Memory; count = k + 1 } }) before before w
+            unfolding stepped
+            store-full start stop x f = full-counts (rw (rw x at plans) (set-full m (card m) (r .is) s p (r .runs .accepted) b t′ q′ _ start stop f z full-for))
+
+            pub length-full-counts : (number from to stop : ℕ) → way ≡ Length number from to stop → write (view s (m .environment) (m .temporary) (m .permanent)) number 3 (shortest (length (joined (view s (m .environment) (m .temporary) (m .permanent)) (named (part s from to))))) ≡ cond b (wrote (view s (m .environment) t′ q′)) noRoom → Counts (record { state = o; ran = record { outcome = Refused Memory; count = k + 1 } }) before before w
+            unfolding stepped
+            length-full-counts number from to stop x f = full-counts (rw (rw x at plans) (length-full m (card m) (r .is) s p (r .runs .accepted) b t′ q′ _ number from to stop f z full-for))
+
+          pub send-full : (tag start stop number : ℕ) → way ≡ Send tag start stop → number ≡ length (commandOf (take (m .len) (m .page)) (m .environment) (m .temporary) (m .permanent) tag start stop) → 255 < number → Counts (record { state = o; ran = record { outcome = Refused Memory; count = k + 1 } }) before before w
+          unfolding stepped issued
+          send-full tag start stop number x f l = full-counts (rw (rw x at plans) (issue-long m (card m) (r .is) (r .runs .accepted) tag start stop before _ (take (m .len) (m .page)) refl number f l full-for .comes))
+
+    -- the command goes out
+    module _ (tag start stop number : ℕ) (x : way ≡ Send tag start stop) (f : number ≡ length (commandOf (take (m .len) (m .page)) (m .environment) (m .temporary) (m .permanent) tag start stop)) (l : number ≤ 255) (hand before after : List ℕ)
+        (g : hand ≡ laidMarked 257 (commandOf (take (m .len) (m .page)) (m .environment) (m .temporary) (m .permanent) tag start stop)) (y : after ≡ poured before 0 (commandOf (take (m .len) (m .page)) (m .environment) (m .temporary) (m .permanent) tag start stop)) where
+      abbrev text : List ℕ
+      text = commandOf (take (m .len) (m .page)) (m .environment) (m .temporary) (m .permanent) tag start stop
+
+      abbrev gone-out : State
+      gone-out = record { page = m .page; len = m .len; environment = m .environment; temporary = m .temporary; permanent = m .permanent; trail = m .trail; guard = m .guard; hand = hand; wanted = m .wanted; unit = m .unit; place = m .place }
+
+      sends : Sends (record { state = gone-out; outcome = Command (length text) }) before after (moved (card m) (send text))
+      sends = send-is m (card m) (r .is) text hand before after (rw (← f) l) g y
+
+      sending : stepped (card m) ≡ moved (card m) (send text)
+      unfolding stepped applied issued
+      sending =
+          let v : text ≡ command (card m) (executeOf (card m .run .page) tag start stop) = command-is m (card m) (r .is) (r .runs .accepted) tag start stop before (record { state = gone-out; outcome = On }) (take (m .len) (m .page)) refl in
+          let short : ltb 255 (length (command (card m) (executeOf (card m .run .page) tag start stop))) ≡ false = rw (← v, ← f) (le-ltb _ _ l) in
+          rw (rw x at plans, short, ← v) refl
+
+      pub send-counts : Counts (record { state = gone-out; ran = record { outcome = Command number; count = k + 1 } }) before after w
+      unfolding goesOn
+      send-counts = comes-stops gone-out (Command number) (rw (sending, f) (sends .comes)) refl before after (rw sending (sends .buffer))
+
+    -- the places that a way names lie in the page
+    module _ (s : List ℕ) (p : s ≡ take (m .len) (m .page)) (start stop : ℕ) where
+      pub store-ordered : way ≡ Store start stop → start ≤ stop
+      store-ordered x = (rw x at inside) .0
+
+      pub store-within : way ≡ Store start stop → stop ≤ length s
+      store-within x = rw p ((rw x at inside) .1)
+
+      pub send-ordered : (tag : ℕ) → way ≡ Send tag start stop → start ≤ stop
+      send-ordered tag x = (rw x at inside) .0
+
+      pub send-within : (tag : ℕ) → way ≡ Send tag start stop → stop ≤ length s
+      send-within tag x = rw p ((rw x at inside) .1)
+
+      pub length-within : (number next : ℕ) → way ≡ Length number start stop next → stop ≤ length s
+      length-within number next x = rw p (rw x at inside)
+
+pub served : (m : State) → Ready m → (s : List ℕ) → s ≡ take (m .len) (m .page) → length (service s) ≤ 16
+served m r s p = rw p (ready-served m r)
+
+pub ruleset loop-laws = (steps-start, ready-served)

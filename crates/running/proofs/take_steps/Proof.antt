@@ -1,0 +1,382 @@
+-- `running::take_steps` meets its contract.
+-- Assumes nothing.
+use native.Mathlib.Omega.{arith}
+use Prim.Native.Nat.{_-_, _≤_}
+use mathlib.Core.Path.{_≡_, refl, ap, _∙_}
+use lib.ListN.{length}
+use Rattle.rules.specs.Calls.{steps}
+use Rattle.state.specs.State.{card}
+use Rattle.running.specs.Course.{Ready, laid}
+use Rattle.running.proofs.RunLaws.{run-out, value-stops, value-steps, value-ready, value-same, place-steps, place-ready, enter-steps, enter-ready, store-steps, store-ready, length-steps, length-ready, end-counts, store-full, length-full-counts, send-full, send-counts, store-ordered, store-within, send-ordered, send-within, length-within, served, loop-laws}
+use borrow.Author.Needs.{needs}
+use Rattle.running.proofs.take_steps.Statement.{statement}
+use Rattle.running.proofs.take_steps.Tie as tie
+
+abbrev Inv-loop : tie.InvT-loop
+Inv-loop most out₀ page₀ len₀ environment₀ temporary₀ permanent₀ trail₀ guard₀ hand₀ wanted₀ unit₀ place₀ count₀ out page len environment temporary permanent trail guard hand wanted unit place count =
+    (count ≤ most) × (out ≡ out₀) × (255 ≤ length out) × Ready (laid page len environment temporary permanent trail guard hand wanted unit place)
+    × (steps (most - count) count (card (laid page len environment temporary permanent trail guard hand wanted unit place)) ≡ steps most 0 (card (laid page₀ len₀ environment₀ temporary₀ permanent₀ trail₀ guard₀ hand₀ wanted₀ unit₀ place₀)))
+
+abbrev μ-loop : tie.MeasureT-loop
+μ-loop most out₀ page₀ len₀ environment₀ temporary₀ permanent₀ trail₀ guard₀ hand₀ wanted₀ unit₀ place₀ count₀ out page len environment temporary permanent trail guard hand wanted unit place count =
+    most - count
+
+loop-holds : tie.Need-loop-holds Inv-loop μ-loop
+loop-holds c = search (needs, loop-laws)
+
+way-at-requires : tie.Need-way-at-requires Inv-loop μ-loop
+way-at-requires c κs = search (needs, loop-laws)
+
+add-count : tie.Need-add-count Inv-loop μ-loop
+add-count c = search (needs, loop-laws)
+
+enum-known-way : tie.Need-enum-known-way Inv-loop μ-loop
+enum-known-way c = search (needs, loop-laws)
+
+note-requires : tie.Need-note-requires Inv-loop μ-loop
+note-requires c κs = search (needs, loop-laws)
+
+leave-unit-requires : tie.Need-leave-unit-requires Inv-loop μ-loop
+leave-unit-requires c κs = search (needs, loop-laws)
+
+page-of-requires : tie.Need-page-of-requires Inv-loop μ-loop
+page-of-requires c κs = search (needs, loop-laws)
+
+entry-of-requires : tie.Need-entry-of-requires Inv-loop μ-loop
+entry-of-requires c κs = search (needs, loop-laws)
+
+loop-less : tie.Need-loop-less Inv-loop μ-loop
+loop-less c = search (needs, loop-laws)
+
+loop-again : tie.Need-loop-again Inv-loop μ-loop
+loop-again c =
+    let l = c .before .before .before .before .before .before .before .before .before .before .before .before .before .before .before .before .before .loop in
+    let h = c .before .before .before .before .before .before .before .before .before .before .before .before .before .before .before .before .loop-test .taken in
+    let way = c .before .before .before .before .before .before .before .before .before .before .before .way-at .ensures in
+    let note = c .before .before .before .before .before .before .note .ensures in
+    let leave = c .before .before .before .leave-unit .ensures in
+    let x = c .before .before .before .before .before .before .before .before .before .way .given .1 in (
+      omega arith,
+      l .inv .1,
+      l .inv .2,
+      enter-ready _ (l .count) _ _ (l .inv .4) (l .inv .3) h _ way _ (note .1) (note .0) _ x _ (leave .0) (leave .1) _ (c .before .page-of .ensures .0) _ (c .entry-of .ensures),
+      enter-steps _ (l .count) _ _ (l .inv .4) (l .inv .3) h _ way _ (note .1) (note .0) _ x _ (leave .0) (leave .1) _ (c .before .page-of .ensures .0) _ (c .entry-of .ensures),
+    )
+
+enum-known-way-2 : tie.Need-enum-known-way-2 Inv-loop μ-loop
+enum-known-way-2 c = search (needs, loop-laws)
+
+note-requires-2 : tie.Need-note-requires-2 Inv-loop μ-loop
+note-requires-2 c κs = search (needs, loop-laws)
+
+loop-less-2 : tie.Need-loop-less-2 Inv-loop μ-loop
+loop-less-2 c = search (needs, loop-laws)
+
+loop-again-2 : tie.Need-loop-again-2 Inv-loop μ-loop
+loop-again-2 c =
+    let l = c .before .before .before .before .before .before .before .before .before .before .before .loop in
+    let h = c .before .before .before .before .before .before .before .before .before .before .loop-test .taken in
+    let way = c .before .before .before .before .before .way-at .ensures in
+    let note = c .note2 .ensures in
+    let x = c .before .before .before .way2 .given .1 in (
+      omega arith,
+      l .inv .1,
+      l .inv .2,
+      place-ready _ (l .count) _ _ (l .inv .4) (l .inv .3) h _ way _ (note .1) (note .0) _ x,
+      place-steps _ (l .count) _ _ (l .inv .4) (l .inv .3) h _ way _ (note .1) (note .0) _ x,
+    )
+
+enum-known-way-3 : tie.Need-enum-known-way-3 Inv-loop μ-loop
+enum-known-way-3 c = search (needs, loop-laws)
+
+note-end-requires : tie.Need-note-end-requires Inv-loop μ-loop
+note-end-requires c κs = search (needs, loop-laws)
+
+keep-rule-requires : tie.Need-keep-rule-requires Inv-loop μ-loop
+keep-rule-requires c κs = search (needs, loop-laws)
+
+at-rest-requires : tie.Need-at-rest-requires Inv-loop μ-loop
+at-rest-requires c κs = search (needs, loop-laws)
+
+same-length : tie.Need-same-length Inv-loop μ-loop
+same-length c =
+    ap length (c .before .before .before .before .before .before .before .before .before .before .before .before .before .before .before .before .before .before .before .before .before .before .loop .inv .1)
+
+returns : tie.Need-returns Inv-loop μ-loop
+returns c =
+    let l = c .before .before .before .before .before .before .before .before .before .before .before .before .before .before .before .before .before .before .before .before .before .before .loop in
+    let h = c .before .before .before .before .before .before .before .before .before .before .before .before .before .before .before .before .before .before .before .before .before .loop-test .taken in
+    let way = c .before .before .before .before .before .before .before .before .before .before .before .before .before .before .before .before .way-at .ensures in
+    let note = c .before .before .before .before .before .before .before .before .before .before .before .note-end .ensures in
+    let keep = c .before .before .before .before .before .before .before .keep-rule .ensures in
+    rw (← l .inv .1) (end-counts _ (l .count) _ _ (l .inv .4) (l .inv .3) h _ way _ (note .1) _ (keep .0) (keep .1 .0) _ (keep .1 .1 .0) (keep .1 .1 .1) _ (c .at-rest .ensures) _ _ (c .before .before .before .before .before .before .before .before .before .before .before .before .before .before .way3 .given .1) (note .0))
+
+enum-known-way-4 : tie.Need-enum-known-way-4 Inv-loop μ-loop
+enum-known-way-4 c = search (needs, loop-laws)
+
+page-of-requires-2 : tie.Need-page-of-requires-2 Inv-loop μ-loop
+page-of-requires-2 c κs = search (needs, loop-laws)
+
+set-all-requires : tie.Need-set-all-requires Inv-loop μ-loop
+set-all-requires c κs =
+    let l = c .before .before .before .before .before .before .before .before .before .before .before .before .before .before .loop in
+    let h = c .before .before .before .before .before .before .before .before .before .before .before .before .before .loop-test .taken in
+    let way = c .before .before .before .before .before .before .before .before .way-at .ensures in
+    let page = c .before .before .before .page-of2 .ensures in
+    let x = c .before .before .before .before .before .before .way4 .given .1 in
+    (store-ordered _ (l .count) _ _ (l .inv .4) (l .inv .3) h _ way _ (page .0) _ _ x, store-within _ (l .count) _ _ (l .inv .4) (l .inv .3) h _ way _ (page .0) _ _ x, page .1, served _ (l .inv .3) _ (page .0))
+
+note-requires-3 : tie.Need-note-requires-3 Inv-loop μ-loop
+note-requires-3 c κs = search (needs, loop-laws)
+
+loop-less-3 : tie.Need-loop-less-3 Inv-loop μ-loop
+loop-less-3 c = search (needs, loop-laws)
+
+loop-again-3 : tie.Need-loop-again-3 Inv-loop μ-loop
+loop-again-3 c =
+    let l = c .before .before .before .before .before .before .before .before .before .before .before .before .before .before .before .before .before .before .loop in
+    let h = c .before .before .before .before .before .before .before .before .before .before .before .before .before .before .before .before .before .loop-test .taken in
+    let way = c .before .before .before .before .before .before .before .before .before .before .before .before .way-at .ensures in
+    let note = c .note3 .ensures in
+    let set = c .before .before .before .set-all .ensures in
+    let room = c .before .before .if1 .taken in
+    let x = c .before .before .before .before .before .before .before .before .before .before .way4 .given .1 in (
+      omega arith,
+      l .inv .1,
+      l .inv .2,
+      store-ready _ (l .count) _ _ (l .inv .4) (l .inv .3) h _ way _ (note .1) (note .0) _ _ (set .1 .1 .0) (set .1 .1 .1) _ room _ (c .before .before .before .before .before .before .before .page-of2 .ensures .0) _ _ x (set .0),
+      store-steps _ (l .count) _ _ (l .inv .4) (l .inv .3) h _ way _ (note .1) (note .0) _ _ (set .1 .1 .0) (set .1 .1 .1) _ room _ (c .before .before .before .before .before .before .before .page-of2 .ensures .0) _ _ x (set .0),
+    )
+
+refuse-room-requires : tie.Need-refuse-room-requires Inv-loop μ-loop
+refuse-room-requires c κs = search (needs, loop-laws)
+
+at-rest-requires-2 : tie.Need-at-rest-requires-2 Inv-loop μ-loop
+at-rest-requires-2 c κs = search (needs, loop-laws)
+
+same-length-2 : tie.Need-same-length-2 Inv-loop μ-loop
+same-length-2 c =
+    ap length (c .before .before .before .before .before .before .before .before .before .before .before .before .before .before .before .before .before .before .before .before .before .before .before .before .before .before .before .before .loop .inv .1)
+
+returns-2 : tie.Need-returns-2 Inv-loop μ-loop
+returns-2 c =
+    let l = c .before .before .before .before .before .before .before .before .before .before .before .before .before .before .before .before .before .before .before .before .before .before .before .before .before .before .before .before .loop in
+    let h = c .before .before .before .before .before .before .before .before .before .before .before .before .before .before .before .before .before .before .before .before .before .before .before .before .before .before .before .loop-test .taken in
+    let way = c .before .before .before .before .before .before .before .before .before .before .before .before .before .before .before .before .before .before .before .before .before .before .way-at .ensures in
+    let set = c .before .before .before .before .before .before .before .before .before .before .before .before .before .set-all .ensures in
+    let none = c .before .before .before .before .before .before .before .before .before .before .before .before .if1 .left in
+    let same = set .1 .0 none in
+    let refuse = c .before .before .before .before .before .before .before .refuse-room .ensures in
+    rw (← l .inv .1) (store-full _ (l .count) _ _ (l .inv .4) (l .inv .3) h _ way _ (refuse .1 .0) _ (rw (same .0) at (refuse .1 .1 .0)) (rw (same .0) at (refuse .1 .1 .1 .0)) _ (refuse .1 .1 .1 .1 .0) (refuse .1 .1 .1 .1 .1) _ (rw (same .1) at (c .at-rest2 .ensures)) _ (refuse .0) _ none _ (c .before .before .before .before .before .before .before .before .before .before .before .before .before .before .before .before .before .page-of2 .ensures .0) _ _ _ _ (c .before .before .before .before .before .before .before .before .before .before .before .before .before .before .before .before .before .before .before .before .way4 .given .1) (set .0))
+
+enum-known-way-5 : tie.Need-enum-known-way-5 Inv-loop μ-loop
+enum-known-way-5 c = search (needs, loop-laws)
+
+page-of-requires-3 : tie.Need-page-of-requires-3 Inv-loop μ-loop
+page-of-requires-3 c κs = search (needs, loop-laws)
+
+set-length-requires : tie.Need-set-length-requires Inv-loop μ-loop
+set-length-requires c κs =
+    let l = c .before .before .before .before .before .before .before .before .before .before .before .before .before .before .loop in
+    let h = c .before .before .before .before .before .before .before .before .before .before .before .before .before .loop-test .taken in
+    let way = c .before .before .before .before .before .before .before .before .way-at .ensures in
+    let page = c .before .before .before .page-of3 .ensures in
+    (length-within _ (l .count) _ _ (l .inv .4) (l .inv .3) h _ way _ (page .0) _ _ _ _ (c .before .before .before .before .before .before .way5 .given .1), page .1, served _ (l .inv .3) _ (page .0))
+
+note-requires-4 : tie.Need-note-requires-4 Inv-loop μ-loop
+note-requires-4 c κs = search (needs, loop-laws)
+
+loop-less-4 : tie.Need-loop-less-4 Inv-loop μ-loop
+loop-less-4 c = search (needs, loop-laws)
+
+loop-again-4 : tie.Need-loop-again-4 Inv-loop μ-loop
+loop-again-4 c =
+    let l = c .before .before .before .before .before .before .before .before .before .before .before .before .before .before .before .before .before .before .loop in
+    let h = c .before .before .before .before .before .before .before .before .before .before .before .before .before .before .before .before .before .loop-test .taken in
+    let way = c .before .before .before .before .before .before .before .before .before .before .before .before .way-at .ensures in
+    let note = c .note4 .ensures in
+    let set = c .before .before .before .set-length .ensures in
+    let room = c .before .before .if2 .taken in
+    let x = c .before .before .before .before .before .before .before .before .before .before .way5 .given .1 in (
+      omega arith,
+      l .inv .1,
+      l .inv .2,
+      length-ready _ (l .count) _ _ (l .inv .4) (l .inv .3) h _ way _ (note .1) (note .0) _ _ (set .1 .1 .0) (set .1 .1 .1) _ room _ (c .before .before .before .before .before .before .before .page-of3 .ensures .0) _ _ _ _ x (set .0),
+      length-steps _ (l .count) _ _ (l .inv .4) (l .inv .3) h _ way _ (note .1) (note .0) _ _ (set .1 .1 .0) (set .1 .1 .1) _ room _ (c .before .before .before .before .before .before .before .page-of3 .ensures .0) _ _ _ _ x (set .0),
+    )
+
+refuse-room-requires-2 : tie.Need-refuse-room-requires-2 Inv-loop μ-loop
+refuse-room-requires-2 c κs = search (needs, loop-laws)
+
+at-rest-requires-3 : tie.Need-at-rest-requires-3 Inv-loop μ-loop
+at-rest-requires-3 c κs = search (needs, loop-laws)
+
+same-length-3 : tie.Need-same-length-3 Inv-loop μ-loop
+same-length-3 c =
+    ap length (c .before .before .before .before .before .before .before .before .before .before .before .before .before .before .before .before .before .before .before .before .before .before .before .before .before .before .before .before .loop .inv .1)
+
+returns-3 : tie.Need-returns-3 Inv-loop μ-loop
+returns-3 c =
+    let l = c .before .before .before .before .before .before .before .before .before .before .before .before .before .before .before .before .before .before .before .before .before .before .before .before .before .before .before .before .loop in
+    let h = c .before .before .before .before .before .before .before .before .before .before .before .before .before .before .before .before .before .before .before .before .before .before .before .before .before .before .before .loop-test .taken in
+    let way = c .before .before .before .before .before .before .before .before .before .before .before .before .before .before .before .before .before .before .before .before .before .before .way-at .ensures in
+    let set = c .before .before .before .before .before .before .before .before .before .before .before .before .before .set-length .ensures in
+    let none = c .before .before .before .before .before .before .before .before .before .before .before .before .if2 .left in
+    let same = set .1 .0 none in
+    let refuse = c .before .before .before .before .before .before .before .refuse-room2 .ensures in
+    rw (← l .inv .1) (length-full-counts _ (l .count) _ _ (l .inv .4) (l .inv .3) h _ way _ (refuse .1 .0) _ (rw (same .0) at (refuse .1 .1 .0)) (rw (same .0) at (refuse .1 .1 .1 .0)) _ (refuse .1 .1 .1 .1 .0) (refuse .1 .1 .1 .1 .1) _ (rw (same .1) at (c .at-rest3 .ensures)) _ (refuse .0) _ none _ (c .before .before .before .before .before .before .before .before .before .before .before .before .before .before .before .before .before .page-of3 .ensures .0) _ _ _ _ _ _ (c .before .before .before .before .before .before .before .before .before .before .before .before .before .before .before .before .before .before .before .before .way5 .given .1) (set .0))
+
+enum-known-way-6 : tie.Need-enum-known-way-6 Inv-loop μ-loop
+enum-known-way-6 c = search (needs, loop-laws)
+
+send-command-requires : tie.Need-send-command-requires Inv-loop μ-loop
+send-command-requires c κs =
+    let l = c .before .before .before .before .before .before .before .before .before .before .before .before .before .before .before .loop in
+    let h = c .before .before .before .before .before .before .before .before .before .before .before .before .before .before .loop-test .taken in
+    let way = c .before .before .before .before .before .before .before .before .before .way-at .ensures in
+    let x = c .before .before .before .before .before .before .before .way6 .given .1 in
+    (send-ordered _ (l .count) _ _ (l .inv .4) (l .inv .3) h _ way _ refl _ _ _ x, send-within _ (l .count) _ _ (l .inv .4) (l .inv .3) h _ way _ refl _ _ _ x, l .inv .2)
+
+same-length-4 : tie.Need-same-length-4 Inv-loop μ-loop
+same-length-4 c =
+    search (needs, loop-laws, ap length (c .before .before .before .before .before .before .before .before .before .before .before .before .before .before .before .before .before .before .before .loop .inv .1), c .before .before .before .send-command .ok)
+
+returns-4 : tie.Need-returns-4 Inv-loop μ-loop
+returns-4 c =
+    let l = c .before .before .before .before .before .before .before .before .before .before .before .before .before .before .before .before .before .before .before .loop in
+    let h = c .before .before .before .before .before .before .before .before .before .before .before .before .before .before .before .before .before .before .loop-test .taken in
+    let way = c .before .before .before .before .before .before .before .before .before .before .before .before .before .way-at .ensures in
+    let sent = c .before .before .before .send-command .ensures in
+    let short = c .if3 .taken in
+    let out = sent .1 .0 short in
+    rw (← l .inv .1) (send-counts _ (l .count) _ _ (l .inv .4) (l .inv .3) h _ way _ _ _ _ (c .before .before .before .before .before .before .before .before .before .before .before .way6 .given .1) (sent .0) short _ _ _ (out .0) (out .1))
+
+refuse-room-requires-3 : tie.Need-refuse-room-requires-3 Inv-loop μ-loop
+refuse-room-requires-3 c κs = search (needs, loop-laws)
+
+at-rest-requires-4 : tie.Need-at-rest-requires-4 Inv-loop μ-loop
+at-rest-requires-4 c κs = search (needs, loop-laws)
+
+same-length-5 : tie.Need-same-length-5 Inv-loop μ-loop
+same-length-5 c =
+    search (needs, loop-laws, ap length (c .before .before .before .before .before .before .before .before .before .before .before .before .before .before .before .before .before .before .before .before .before .before .before .before .before .before .before .before .before .before .before .loop .inv .1), c .before .before .before .before .before .before .before .before .before .before .before .before .before .before .before .send-command .ok)
+
+returns-5 : tie.Need-returns-5 Inv-loop μ-loop
+returns-5 c =
+    let l = c .before .before .before .before .before .before .before .before .before .before .before .before .before .before .before .before .before .before .before .before .before .before .before .before .before .before .before .before .before .before .before .loop in
+    let h = c .before .before .before .before .before .before .before .before .before .before .before .before .before .before .before .before .before .before .before .before .before .before .before .before .before .before .before .before .before .before .loop-test .taken in
+    let way = c .before .before .before .before .before .before .before .before .before .before .before .before .before .before .before .before .before .before .before .before .before .before .before .before .before .way-at .ensures in
+    let sent = c .before .before .before .before .before .before .before .before .before .before .before .before .before .before .before .send-command .ensures in
+    let long = c .before .before .before .before .before .before .before .before .before .before .before .before .if3 .left in
+    let same = sent .1 .1 long in
+    let refuse = c .before .before .before .before .before .before .before .refuse-room3 .ensures in
+    rw (← l .inv .1, same .1) (send-full _ (l .count) _ _ (l .inv .4) (l .inv .3) h _ way _ (refuse .1 .0) _ (refuse .1 .1 .0) (refuse .1 .1 .1 .0) _ (refuse .1 .1 .1 .1 .0) (refuse .1 .1 .1 .1 .1) _ (c .at-rest4 .ensures) _ (refuse .0) _ _ _ _ (c .before .before .before .before .before .before .before .before .before .before .before .before .before .before .before .before .before .before .before .before .before .before .before .way6 .given .1) (sent .0) long)
+
+enum-told : tie.Need-enum-told Inv-loop μ-loop
+enum-told c = search (needs, loop-laws)
+
+take-step-requires : tie.Need-take-step-requires Inv-loop μ-loop
+take-step-requires c κs = search (needs, loop-laws)
+
+stops-requires : tie.Need-stops-requires Inv-loop μ-loop
+stops-requires c κs = search (needs, loop-laws)
+
+same-length-6 : tie.Need-same-length-6 Inv-loop μ-loop
+same-length-6 c =
+    search (needs, loop-laws, ap length (c .before .before .before .before .before .before .before .before .before .before .before .before .before .before .before .loop .inv .1), c .before .before .before .before .before .take-step .ok)
+
+returns-6 : tie.Need-returns-6 Inv-loop μ-loop
+returns-6 c =
+    let l = c .before .before .before .before .before .before .before .before .before .before .before .before .before .before .before .loop in
+    let h = c .before .before .before .before .before .before .before .before .before .before .before .before .before .before .loop-test .taken in
+    rw (← l .inv .1) (value-stops _ (l .count) _ _ (l .inv .4) (l .inv .3) h _ _ _ (c .before .before .before .before .before .take-step .ensures) _ (c .before .stops .ensures) (c .if4 .taken))
+
+loop-less-5 : tie.Need-loop-less-5 Inv-loop μ-loop
+loop-less-5 c = search (needs, loop-laws)
+
+loop-again-5 : tie.Need-loop-again-5 Inv-loop μ-loop
+loop-again-5 c =
+    let l = c .before .before .before .before .before .before .before .before .before .before .before .before .before .before .before .before .before .before .before .before .before .before .before .loop in
+    let h = c .before .before .before .before .before .before .before .before .before .before .before .before .before .before .before .before .before .before .before .before .before .before .loop-test .taken in
+    let step = c .before .before .before .before .before .before .before .before .before .before .before .before .before .take-step .ensures in
+    let on = c .before .before .before .before .before .before .before .before .before .stops .ensures in
+    let off = c .before .before .before .before .before .before .before .before .if4 .left in
+    let same = value-same _ (l .count) _ _ (l .inv .4) (l .inv .3) h _ _ _ step _ on off in (
+      omega arith,
+      same ∙ l .inv .1,
+      rw same (l .inv .2),
+      value-ready _ (l .count) _ _ (l .inv .4) (l .inv .3) h _ _ _ step _ on off,
+      value-steps _ (l .count) _ _ (l .inv .4) (l .inv .3) h _ _ _ step _ on off,
+    )
+
+same-length-7 : tie.Need-same-length-7 Inv-loop μ-loop
+same-length-7 c = search (needs, loop-laws)
+
+returns-7 : tie.Need-returns-7 Inv-loop μ-loop
+returns-7 c =
+    let l = c .before .loop in
+    rw (← l .inv .1) (run-out _ (l .count) _ _ (l .inv .4) (l .inv .3) _ (c .loop-test .left) (l .inv .0))
+
+pub take-steps-spec : {M : Type 1} → statement M
+take-steps-spec =
+    tie.close
+    (tie.spec
+    Inv-loop
+    μ-loop
+    loop-holds
+    way-at-requires
+    add-count
+    enum-known-way
+    note-requires
+    leave-unit-requires
+    page-of-requires
+    entry-of-requires
+    loop-less
+    loop-again
+    enum-known-way-2
+    note-requires-2
+    loop-less-2
+    loop-again-2
+    enum-known-way-3
+    note-end-requires
+    keep-rule-requires
+    at-rest-requires
+    same-length
+    returns
+    enum-known-way-4
+    page-of-requires-2
+    set-all-requires
+    note-requires-3
+    loop-less-3
+    loop-again-3
+    refuse-room-requires
+    at-rest-requires-2
+    same-length-2
+    returns-2
+    enum-known-way-5
+    page-of-requires-3
+    set-length-requires
+    note-requires-4
+    loop-less-4
+    loop-again-4
+    refuse-room-requires-2
+    at-rest-requires-3
+    same-length-3
+    returns-3
+    enum-known-way-6
+    send-command-requires
+    same-length-4
+    returns-4
+    refuse-room-requires-3
+    at-rest-requires-4
+    same-length-5
+    returns-5
+    enum-told
+    take-step-requires
+    stops-requires
+    same-length-6
+    returns-6
+    loop-less-5
+    loop-again-5
+    same-length-7
+    returns-7)

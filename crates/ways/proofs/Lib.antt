@@ -1,0 +1,3 @@
+pub mod WayLaws
+pub mod Steps
+pub mod Bounds
