@@ -4,12 +4,8 @@ use mathlib.Core.Path.{sym, _∙_}
 use lib.Seq.{length-take-le}
 use Rattle.reader.proofs.Front.{head-front}
 use borrow.Author.Needs.{needs}
-use native.Mathlib.Omega.{arith}
 use Rattle.reader.proofs.head_at.Statement.{statement}
 use Rattle.reader.proofs.head_at.Tie as tie
-use Rattle.reader.proofs.head_at.Reads as reads
-use Rattle.reader.proofs.head_at.Lts as lts
-use Rattle.reader.proofs.head_from.Reads as head-from-reads
 
 slice-aggregate-head-from : tie.Need-slice-aggregate-head-from
 slice-aggregate-head-from c = sym (length-take-le _ _ (c .before .before .pre))

@@ -1,5 +1,5 @@
--- `reader::new` meets its contract: a walk of its MIR, by hand. A `Reader` is made of the slice and the number passed, in the result's local.
--- A `&[u8]` is Copy, so what it owns is had twice: once for src at exit, and once inside the result, beside the facts of at.
+-- `reader::new` meets its contract: a walk of its MIR, by hand. A reader is made of the container and the place passed, in the result's local.
+-- A `&[u8]` is Copy, so what it owns is had twice: once for the container at exit, and once inside the result, beside the facts of the place.
 -- Assumes nothing.
 use mathlib.Core.Path.{refl}
 use Prim.Native.Nat.{ℕ, _<_, _^_}
@@ -56,27 +56,27 @@ module _ {M : Type 1} (𝓤 : URA M) (H : Heap 𝓤) (A : Atoms 𝓤) (W : Given
   abbrev made : Reader
   made = record { container = s; place = n }
 
-  abbrev at : Vals new.signature (κ, tt)
-  at = (v ∷ [], (vint w64 n ∷ [], tt))
+  abbrev vals : Vals new.signature (κ, tt)
+  vals = (v ∷ [], (vint w64 n ∷ [], tt))
 
   abbrev Post : Val → SProp 𝓤
-  Post = walkOf 𝓤 H A new.ended stayed (new.clauses 𝓤 H A mem run) .post (((κ, tt), (q, tt), tt, (s, (n, tt)), at), tt)
+  Post = walkOf 𝓤 H A new.ended stayed (new.clauses 𝓤 H A mem run) .post (((κ, tt), (q, tt), tt, (s, (n, tt)), vals), tt)
 
   abbrev Own : Fml
   Own = ShrSlice (named 0) κ u8 .own s (v ∷ [])
 
-  exits : ent 𝓤 (onEntry 𝓤 H A new.signature (κ, tt) (q, tt) (s, (n, tt)) at) (Post (T′.lowered made))
+  exits : ent 𝓤 (onEntry 𝓤 H A new.signature (κ, tt) (q, tt) (s, (n, tt)) vals) (Post (T′.lowered made))
   exits =
-      qed W ((‵ (flft κ q) ⊛ ‵ ftrue) ∷ ‵ (owns (ShrSlice (named 0) κ u8 ∷ usize ∷ []) (s, (n, tt)) at) ∷ []) ∵
-      suffices ! _ (ends-at 𝓤 H A new.ended stayed (new.clauses 𝓤 H A mem run) W (((κ, tt), (q, tt), tt, (s, (n, tt)), at), tt) (T′.lowered made) made (tt, (tt, tt)) (tt, (tt, tt))) $ says ! (refl, refl) $
+      qed W ((‵ (flft κ q) ⊛ ‵ ftrue) ∷ ‵ (owns (ShrSlice (named 0) κ u8 ∷ usize ∷ []) (s, (n, tt)) vals) ∷ []) ∵
+      suffices ! _ (ends-at 𝓤 H A new.ended stayed (new.clauses 𝓤 H A mem run) W (((κ, tt), (q, tt), tt, (s, (n, tt)), vals), tt) (T′.lowered made) made (tt, (tt, tt)) (tt, (tt, tt))) $ says ! (refl, refl) $
       frame ! $ fsplit ! $ use1 W (‵ Own ⊛ ‵ Own) (shr-slice-copy 𝓤 H A W (named 0) κ u8 .twice s (v ∷ [])) $ split ! $ move ! (0 ∷ 2 ∷ []) $ fjoin ! $ frame ! $
-      -- [what src owns]: what the fields own together, of it and of at's facts, is what the struct owns
+      -- [what the container owns]: what the fields own together, of it and of the place's facts, is what the reader owns
       nothing ! $ owned ! usize (Is usize) (uint-makes 𝓤 H A W w64) n _ (refl, ok) $ fjoin ! $ move ! (1 ∷ 0 ∷ []) $ fjoin ! $ by ! (own-shut 𝓤 H A W (T.the-type α) (T′.the-laws α) (s, (n, tt)))
 
   module _ (C : Calls 𝓤 H) (Λ : Loops 𝓤 H) where
-    walk : Is (ShrSlice (named 0) κ u8) s (v ∷ []) → ent 𝓤 (onEntry 𝓤 H A new.signature (κ, tt) (q, tt) (s, (n, tt)) at) (WpFn 𝓤 H C Λ code.function (v ∷ vint w64 n ∷ []) Post)
+    walk : Is (ShrSlice (named 0) κ u8) s (v ∷ []) → ent 𝓤 (onEntry 𝓤 H A new.signature (κ, tt) (q, tt) (s, (n, tt)) vals) (WpFn 𝓤 H C Λ code.function (v ∷ vint w64 n ∷ []) Post)
     walk p =
-        qed W (raw (onEntry 𝓤 H A new.signature (κ, tt) (q, tt) (s, (n, tt)) at) ∷ []) ∵ enter ! C Λ code.function (v ∷ vint w64 n ∷ []) _ $
+        qed W (raw (onEntry 𝓤 H A new.signature (κ, tt) (q, tt) (s, (n, tt)) vals) ∷ []) ∵ enter ! C Λ code.function (v ∷ vint w64 n ∷ []) _ $
         alloc1 ! (λ l₀. alloc1 ! (λ l₁. alloc1 ! (λ l₂. alloc0 ! $ params1 ! $ pass1 ! (init ! 2 refl (shr-slice-lawful 𝓤 H A W (named 0) κ u8 .typed s (v ∷ []) p .0)) $ pass1 ! (init ! 0 refl (tt, record { fits = ok })) $ pass0 ! $
         assigns ! (agg ! (and-then ! (load ! (from ! (stop !)) (look ! 2 refl)) (and-then ! (load ! (from ! (stop !)) (look ! 0 refl)) (no-more !)))) (from ! (stop !)) (init ! 4 refl (tt, (shr-slice-lawful 𝓤 H A W (named 0) κ u8 .typed s (v ∷ []) p .0 .1, (record { fits = ok }, tt)))) $
         returns ! (look ! 4 refl) $ forget ! 0 refl $ forget ! 2 refl $ forget ! 4 refl $ move ! (4 ∷ 5 ∷ []) $ free1 ! $ move ! (2 ∷ 3 ∷ []) $ free1 ! $ free1 ! $ free0 ! $ by ! exits)))
