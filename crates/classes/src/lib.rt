@@ -149,7 +149,7 @@ pub fn walk(
     let mut last: u8 = 0;
     while gap < end - at {
         let place = at + gap;
-        let Head::Tlv(t, start, stop) = tlv::head_at(s, place, end) else {
+        let Head::Tlv(t, start, stop) = reader::head_at(s, place, end) else {
             return Found::At(place);
         };
         let cell = cell_for(class, within, t);

@@ -153,7 +153,7 @@ fn clean(
     let mut modifiers = room;
     while gap < end - at {
         let place = at + gap;
-        let Head::Tlv(t, start, stop) = tlv::head_at(s, place, end) else {
+        let Head::Tlv(t, start, stop) = reader::head_at(s, place, end) else {
             return false;
         };
         let cell = grammar::cell_of(within, t);
@@ -221,7 +221,7 @@ fn anchor_clean(s: &[u8], seen: u8, from: usize, end: usize) -> bool
     requires { ⌜ end ≤ length (now s) ⌝ }
     ensures { λ r. ⌜ (r ≡ true → FreshIf (now (s .entry)) seen from end) ⌝ }
 {
-    let Head::Tlv(t, start, stop) = tlv::head_at(s, from, end) else {
+    let Head::Tlv(t, start, stop) = reader::head_at(s, from, end) else {
         return true;
     };
     if t == 0x0B {
@@ -283,7 +283,7 @@ fn row_clean(s: &[u8], from: usize, end: usize) -> bool
     let mut modifiers = MODIFIERS;
     let mut slots: [u8; 1025] = [0; 1025];
     while at < end {
-        let Head::Tlv(t, start, stop) = tlv::head_at(s, at, end) else {
+        let Head::Tlv(t, start, stop) = reader::head_at(s, at, end) else {
             return false;
         };
         let cell = grammar::cell_of(grammar::PAGE, t);
@@ -334,7 +334,7 @@ pub fn page_clean(s: &[u8], stop: usize) -> bool
     if grammar::lacks(s, grammar::WHOLE, 0, stop) {
         return false;
     }
-    let Head::Tlv(t, start, end) = tlv::head_at(s, 0, stop) else {
+    let Head::Tlv(t, start, end) = reader::head_at(s, 0, stop) else {
         return false;
     };
     if end != stop {

@@ -21,7 +21,7 @@ use Rattle.classes.proofs.cell_for.Reads as cell-for-reads
 use Rattle.classes.proofs.floor_of.Reads as floor-of-reads
 use Rattle.classes.proofs.lacking.Reads as lacking-reads
 use Rattle.classes.proofs.look_at.Reads as look-at-reads
-use Rattle.tlv.proofs.head_at.Reads as head-at-reads
+use Rattle.reader.proofs.head_at.Reads as head-at-reads
 
 abbrev μ-walk : Measures 1 walk-kinds.ps ℕ
 μ-walk κs a = a .1 .1 .1 .1 .1 .1 .0

@@ -14,7 +14,7 @@ use Rattle.grammar.proofs.gap_of.Reads as gap-of-reads
 use Rattle.grammar.proofs.lacks.Reads as lacks-reads
 use Rattle.faultless.proofs.clean_look.Reads as clean-look-reads
 use Rattle.faultless.proofs.left_after.Reads as left-after-reads
-use Rattle.tlv.proofs.head_at.Reads as head-at-reads
+use Rattle.reader.proofs.head_at.Reads as head-at-reads
 use Rattle.leaf.proofs.Cases.{was}
 use Rattle.tlv.proofs.Bounds.{head-tlv}
 use Rattle.classes.proofs.WalkLaws.{t-within}
