@@ -138,7 +138,7 @@ pub fn jump_to(mut state: State, k: usize) -> Moved
 }
 
 // A reference to keep for the host. No accepted page and no history has one of more than 65 bytes.
-fn want(wanted: &mut [u8; 66], reference: &[u8])
+pub fn want(wanted: &mut [u8; 66], reference: &[u8])
     ensures { λ _. ⌜ (length (now (reference .entry)) ≤ 65 → wordIn (now (wanted .exit)) ≡ now (reference .entry)) ⌝ }
     ensures { λ _. ⌜ (tidyWanted (now (wanted .entry)) ≡ true → tidyWanted (now (wanted .exit)) ≡ true) ⌝ }
 {

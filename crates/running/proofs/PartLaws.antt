@@ -3,50 +3,31 @@
 use Prim.Native.Nat.{ℕ, _≤_, _<_}
 use mathlib.Core.Bool.{Bool, true, false, cond}
 use mathlib.Core.List.{List, [], _∷_}
-use mathlib.Core.Path.{_≡_, refl, sym}
+use mathlib.Core.Path.{_≡_, refl, sym, ap, _∙_}
 use native.Mathlib.Omega.{arith}
 use lib.ListN.{length, take, set}
+use lib.Dec.{eqb}
+use borrow.Author.Tests.{eq-eqb, ne-eqb}
 use Rattle.rules.specs.declared.Judged.the-variants.{Accepted}
-use Rattle.rules.specs.declared.Outcome.{Outcome}
-use Rattle.rules.specs.declared.Outcome.the-variants.{On, Command, Page, Ended, Refused}
-use Rattle.rules.specs.declared.Refusal.{Refusal}
+use Rattle.rules.specs.declared.Target.{Target}
+use Rattle.rules.specs.declared.Target.the-variants.{Unit as OwnUnit, Lacking, Other}
 use Rattle.rules.specs.Bytes.{part}
 use Rattle.rules.specs.Loader.{judge}
 use Rattle.rules.specs.Page.{keepList, password, bytesOf}
 use Rattle.rules.specs.Keep.{keptBy, guardBy}
-use Rattle.rules.specs.Card.{held}
-use Rattle.rules.specs.Calls.{goesOn}
+use Rattle.rules.specs.Reference.{target}
+use Rattle.rules.specs.Card.{History, held}
+use Rattle.rules.specs.Trail.{last}
 use Rattle.pour.specs.Pour.{poured}
 use Rattle.slots.specs.Slots.{slots}
-use Rattle.word.specs.Word.{laidMarked, guardOf}
+use Rattle.word.specs.Word.{laidMarked, wordIn, guardOf}
 use Rattle.value.specs.Into.{into}
 use Rattle.sending.proofs.SendLaws.{text-is}
-use Rattle.running.specs.Course.{commandOf}
+use Rattle.running.specs.declared.Turn.{Turn}
+use Rattle.running.specs.declared.Turn.the-variants.{Nowhere, Unit, Page}
+use Rattle.running.specs.Course.{commandOf, turnTo, turnOf}
 use Rattle.trail.specs.Trail.{historyOf}
 use Rattle.leaving.specs.Leaving.{entryFor, leftBy}
-
-module _ (o : Outcome) where
-  pub stops-on : o ≡ On → false ≡ cond (goesOn o) false true
-  unfolding goesOn
-  stops-on x = sym (rw x refl)
-
-  pub stops-command : (n : ℕ) → o ≡ Command n → true ≡ cond (goesOn o) false true
-  unfolding goesOn
-  stops-command n x = sym (rw x refl)
-
-  pub stops-page : o ≡ Page → true ≡ cond (goesOn o) false true
-  unfolding goesOn
-  stops-page x = sym (rw x refl)
-
-  pub stops-ended : o ≡ Ended → true ≡ cond (goesOn o) false true
-  unfolding goesOn
-  stops-ended x = sym (rw x refl)
-
-  pub stops-refused : (r : Refusal) → o ≡ Refused r → true ≡ cond (goesOn o) false true
-  unfolding goesOn
-  stops-refused r x = sym (rw x refl)
-
-pub ruleset stops-laws = (stops-on, stops-command, stops-page, stops-ended, stops-refused)
 
 module _ (done : Bool) (before after : List ℕ) where
   pub note-done : done ≡ true → slots after ≡ set (slots before) 5 (held 3 (0 ∷ 0 ∷ [])) → slots after ≡ cond done (set (slots before) 5 (held 3 (0 ∷ 0 ∷ []))) (slots before)
@@ -83,3 +64,64 @@ module _ (page s env temp perm : List ℕ) (p : s ≡ page) (tag start stop n : 
 
 pub not-long : {A : Type 0} (n : ℕ) → n ≤ 255 → 255 < n → A
 not-long n h i = absurd (omega arith)
+
+pub want-part : (page s word after : List ℕ) (start stop : ℕ) → s ≡ page → word ≡ part s start stop → (length word ≤ 65 → wordIn after ≡ word) → (length (part page start stop) ≤ 65 → wordIn after ≡ part page start stop)
+want-part page s word after start stop p e f = rw (← p, ← e) f
+
+-- the kinds of a turn are apart
+kind : Turn → ℕ
+kind Nowhere = 0
+kind (Unit k) = 1
+kind Page = 2
+
+pub unit-not-page : {A : Type 0} (k : ℕ) → Unit k ≡ Page → A
+unfolding kind
+unit-not-page k e = absurd (omega (arith, ap kind e))
+
+pub page-not-unit : {A : Type 0} (k : ℕ) → Page ≡ Unit k → A
+page-not-unit k e = unit-not-page k (sym e)
+
+pub nowhere-not-unit : {A : Type 0} (k : ℕ) → Nowhere ≡ Unit k → A
+unfolding kind
+nowhere-not-unit k e = absurd (omega (arith, ap kind e))
+
+pub nowhere-not-page : {A : Type 0} → Nowhere ≡ Page → A
+unfolding kind
+nowhere-not-page e = absurd (omega (arith, ap kind e))
+
+module _ (page s entry : List ℕ) (p : s ≡ page) (t : Target) (e : t ≡ target s entry) where
+  pub turn-unit : (k : ℕ) → t ≡ OwnUnit k → Unit k ≡ turnTo (target page entry)
+  unfolding turnTo
+  turn-unit k x = rw (← p, ← e, x) refl
+
+  pub turn-lacking : t ≡ Lacking → Page ≡ turnTo (target page entry)
+  unfolding turnTo
+  turn-lacking x = rw (← p, ← e, x) refl
+
+  pub turn-other : t ≡ Other → Page ≡ turnTo (target page entry)
+  unfolding turnTo
+  turn-other x = rw (← p, ← e, x) refl
+
+turn-somewhere : {A : Type 0} (t : Target) → Nowhere ≡ turnTo t → A
+unfolding turnTo
+turn-somewhere (OwnUnit k) e = nowhere-not-unit k e
+turn-somewhere Lacking e = nowhere-not-page e
+turn-somewhere Other e = nowhere-not-page e
+
+module _ (page : List ℕ) (h : History) (n : ℕ) (e : n ≡ h .pointer) where
+  pub turn-none : n ≡ 0 → Nowhere ≡ turnOf page h
+  unfolding turnOf
+  turn-none x = rw (← e, eq-eqb _ _ x) refl
+
+  module _ (x : n ≡ 0 → ⊥) (entry : List ℕ) (f : entry ≡ last h) (r : Turn) (g : r ≡ turnTo (target page entry)) where
+    pub turn-is : r ≡ turnOf page h
+    unfolding turnOf
+    turn-is =
+        let k : eqb (h .pointer) 0 ≡ false = rw (← e) (ne-eqb _ _ x) in
+        rw k (g ∙ ap (λ (w : List ℕ). turnTo (target page w)) f)
+
+    pub turn-not-nowhere : {A : Type 0} → r ≡ Nowhere → A
+    turn-not-nowhere y = turn-somewhere (target page entry) (sym y ∙ g)
+
+    pub turn-wanted : (after : List ℕ) → (r ≡ Page → length entry ≤ 65 → wordIn after ≡ entry) → (r ≡ Page → length (last h) ≤ 65 → wordIn after ≡ last h)
+    turn-wanted after k y l = k y (rw f l) ∙ f

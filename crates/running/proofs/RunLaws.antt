@@ -6,12 +6,15 @@ use mathlib.Core.List.{List, [], _∷_}
 use mathlib.Core.Path.{_≡_, refl, sym, ap, _∙_}
 use native.Mathlib.Omega.{arith}
 use lib.ListN.{length, take, set}
-use lib.Dec.{ltb}
+use lib.Dec.{ltb, eqb}
 use borrow.Author.Tests.{le-ltb}
 use Rattle.pour.specs.Pour.{blank, poured}
 use Rattle.rules.specs.declared.Outcome.{Outcome}
-use Rattle.rules.specs.declared.Outcome.the-variants.{On, Command, Page, Ended, Refused}
+use Rattle.rules.specs.declared.Outcome.the-variants.{On, Command, Page as Wanted, Ended, Refused}
+use Rattle.rules.specs.declared.Refusal.{Refusal}
 use Rattle.rules.specs.declared.Refusal.the-variants.{Memory}
+use Rattle.rules.specs.declared.Target.{Target}
+use Rattle.rules.specs.declared.Target.the-variants.{Unit as OwnUnit, Lacking, Other}
 use Rattle.rules.specs.declared.Judged.the-variants.{Accepted}
 use Rattle.rules.specs.Numbers.{code, noError}
 use Rattle.rules.specs.Bytes.{part, hex, hexTo}
@@ -19,27 +22,30 @@ use Rattle.rules.specs.Tlvs.{tlvs}
 use Rattle.rules.specs.Pieces.{named}
 use Rattle.rules.specs.Loader.{judge}
 use Rattle.rules.specs.Page.{service, entryOf, keepList, password, bytesOf}
-use Rattle.rules.specs.Card.{Card, Hand, empty, byCode, held, isEmpty, withRun, withHistory, withEnvironment}
-use Rattle.rules.specs.Trail.{left}
+use Rattle.rules.specs.Card.{Card, Hand, empty, byCode, held, isEmpty, withRun, withHistory, withEnvironment, withWanted}
+use Rattle.rules.specs.Reference.{target}
+use Rattle.rules.specs.Trail.{left, last, lowered}
 use Rattle.rules.specs.Store.{wrote, noRoom, write}
 use Rattle.rules.specs.Value.{joined, shortest}
 use Rattle.rules.specs.Command.{executeOf, command}
 use Rattle.rules.specs.Keep.{keptBy, guardBy, rested}
-use Rattle.rules.specs.Step.{effect, marked, placed, entered, leaving, failed, onwards, send, moved, refuses, applied, setAll, decide, stepped}
+use Rattle.rules.specs.Step.{Effect, effect, marked, placed, entered, leaving, wanting, backTo, goBack, failed, onwards, send, moved, refuses, applied, setAll, decide, stepped}
 use Rattle.rules.specs.Calls.{bufferAfter, Counted, goesOn, steps}
+use Rattle.leaf.proofs.Cases.{both}
+use Rattle.rules.proofs.StaysCardHistory.{history-fit, last-wanted, bounds}
 use Rattle.rules.proofs.StaysCardStep.{Running, card-running, stepped-card, empty-page}
 use Rattle.slots.specs.Slots.{slots, tidySlots}
 use Rattle.records.specs.Records.{tidyRecords}
 use Rattle.trail.specs.Trail.{historyOf, tidyTrail}
-use Rattle.word.specs.Word.{laidMarked, guardOf, tidyGuard}
-use Rattle.variable.specs.View.{view}
+use Rattle.word.specs.Word.{laidMarked, wordIn, guardOf, handOf, tidyGuard, tidyWanted}
+use Rattle.variable.specs.View.{bare, view}
 use Rattle.leaving.specs.Leaving.{entryFor, leftBy}
 use Rattle.leaving.proofs.Accepted.{accepted-service, accepted-password, left-by}
 use Rattle.state.specs.declared.State.{State}
 use Rattle.state.specs.State.{Is, card, runOf, pageOf}
 use Rattle.state.proofs.Canonical.{is-card}
 use Rattle.state.proofs.RestLaws.{rest-is}
-use Rattle.state.proofs.Changes.{new-environment, new-history, new-place}
+use Rattle.state.proofs.Changes.{new-environment, new-history, new-wanted, new-place}
 use Rattle.storing.proofs.StoreLaws.{view-is, set-done, set-full, length-done, length-full}
 use Rattle.moving.specs.declared.Moved.{Moved}
 use Rattle.moving.specs.Moved.{Comes}
@@ -47,11 +53,15 @@ use Rattle.sending.specs.Sent.{Sends}
 use Rattle.sending.proofs.SendLaws.{send-is, command-is, issue-long}
 use Rattle.stepping.proofs.GoesOn.{stepped-on}
 use Rattle.ways.specs.declared.Way.{Way}
-use Rattle.ways.specs.declared.Way.the-variants.{Enter, Place, End, Store, Length, Send}
-use Rattle.ways.specs.Way.{wayAt, issued, Plans, Inside}
-use Rattle.ways.proofs.Steps.{way-plans}
+use Rattle.ways.specs.declared.Way.the-variants.{Enter, Place, End, Refuse, Away, Back, Store, Length, Send}
+use Rattle.ways.specs.Way.{wayAt, issued, planOf, Inside, Short}
+use Rattle.ways.proofs.Steps.{way-same, way-plan}
 use Rattle.ways.proofs.Bounds.{way-inside}
-use Rattle.running.specs.Course.{laid, commandOf, Ready, Counts}
+use Rattle.ways.proofs.Short.{way-short}
+use Rattle.running.specs.declared.Turn.{Turn}
+use Rattle.running.specs.declared.Turn.the-variants.{Nowhere, Unit, Page}
+use Rattle.running.specs.Course.{laid, commandOf, turnTo, turnOf, Ready, Counts}
+use Rattle.running.proofs.PartLaws.{nowhere-not-page}
 
 pub ready-served : (m : State) → Ready m → length (service (take (m .len) (m .page))) ≤ 16
 unfolding card runOf pageOf
@@ -65,7 +75,7 @@ quiet : (c : Card) (b : List ℕ) (o : Outcome) → goesOn o ≡ true → buffer
 unfolding goesOn bufferAfter
 quiet c b On e = refl
 quiet c b (Command n) e = absurd (false≢true e)
-quiet c b Page e = absurd (false≢true e)
+quiet c b Wanted e = absurd (false≢true e)
 quiet c b Ended e = absurd (false≢true e)
 quiet c b (Refused r) e = absurd (false≢true e)
 
@@ -121,23 +131,47 @@ module _ (m : State) (c : Card) (is : Is m c) (environment : List ℕ) (t : tidy
         entered-is s p k place q =
             rw (← rw (p ∙ is .page) at q) (new-place _ (leaving (marked noError c)) left-is (m .hand) empty k place (is .hand ∙ idle) (is .tidyHeld))
 
--- the page ends: '05' as a byte code leaves it, the keep rule, and a state at rest
-module _ (m : State) (c : Card) (is : Is m c) (ok : judge (c .run .page) ≡ Accepted) (environment : List ℕ) (t : tidySlots (m .environment) ≡ true → tidySlots environment ≡ true)
-    (temporary : List ℕ) (kept : slots temporary ≡ keptBy (take (m .len) (m .page)) (keepList (take (m .len) (m .page))) (slots (m .temporary))) (u : tidySlots (m .temporary) ≡ true → tidySlots temporary ≡ true)
-    (guard : List ℕ) (guarded : length (bytesOf (take (m .len) (m .page)) (password (take (m .len) (m .page)))) ≤ 16 → guardOf guard ≡ guardBy (take (m .len) (m .page)) (password (take (m .len) (m .page)))) (v : tidyGuard (m .guard) ≡ true → tidyGuard guard ≡ true) where
-  abbrev ended : State
-  ended = laid (blank 4096) 0 environment temporary (m .permanent) (m .trail) guard (blank 257) (m .wanted) 0 0
+-- the keep rule, and a state at rest
+rest-at : (m : State) (c : Card) → Is m c → judge (c .run .page) ≡ Accepted
+    → (temporary : List ℕ) → slots temporary ≡ keptBy (take (m .len) (m .page)) (keepList (take (m .len) (m .page))) (slots (m .temporary)) → (tidySlots (m .temporary) ≡ true → tidySlots temporary ≡ true)
+    → (guard : List ℕ) → (length (bytesOf (take (m .len) (m .page)) (password (take (m .len) (m .page)))) ≤ 16 → guardOf guard ≡ guardBy (take (m .len) (m .page)) (password (take (m .len) (m .page)))) → (tidyGuard (m .guard) ≡ true → tidyGuard guard ≡ true)
+    → Is (laid (blank 4096) 0 (m .environment) temporary (m .permanent) (m .trail) guard (blank 257) (m .wanted) 0 0) (rested c)
+rest-at m c is ok temporary kept u guard guarded v =
+    rest-is m c is (accepted-password (c .run .page) ok) (blank 4096) temporary guard (blank 257) (take (m .len) (m .page)) refl kept u guarded v refl refl
 
-  ended-is : (d : Card) → Is (record { page = m .page; len = m .len; environment = environment; temporary = m .temporary; permanent = m .permanent; trail = m .trail; guard = m .guard; hand = m .hand; wanted = m .wanted; unit = m .unit; place = m .place }) d → d .run .page ≡ c .run .page → Is ended (rested d)
-  ended-is d i e = rest-is _ d i (accepted-password (d .run .page) (rw e ok)) (blank 4096) temporary guard (blank 257) (take (m .len) (m .page)) refl kept u guarded v refl refl
+-- a place where a state goes on in a unit, with no command in hand
+entry-is : (m : State) (c : Card) → Is m c → (k place : ℕ) → place ≡ entryOf (take (m .len) (m .page)) k → handOf (m .hand) ≡ empty → Is (record { page = m .page; len = m .len; environment = m .environment; temporary = m .temporary; permanent = m .permanent; trail = m .trail; guard = m .guard; hand = m .hand; wanted = m .wanted; unit = k; place = place }) (entered c k)
+unfolding entered pageOf
+entry-is m c is k place e idle = rw (← (e ∙ ap (λ (s : List ℕ). entryOf s k) (is .page))) (new-place m c is (m .hand) empty k place idle (is .tidyHeld))
 
-  marked-end : (bytes : List ℕ) → slots environment ≡ set (slots (m .environment)) 5 (held 3 bytes) → Is ended (rested (marked bytes c))
-  unfolding marked withEnvironment
-  marked-end bytes e = ended-is (marked bytes c) (noted-as m c is environment t bytes e) refl
+-- going back, by the turn that it takes
+turned : Card → Turn → Effect
+turned c Nowhere = effect Ended (rested c)
+turned c (Unit k) = effect On (entered (withHistory c (lowered (c .history))) k)
+turned c Page = wanting (withHistory c (lowered (c .history))) (last (c .history))
 
-  unmarked-end : slots environment ≡ slots (m .environment) → Is ended (rested c)
-  unfolding withEnvironment
-  unmarked-end e = ended-is c (new-environment m c is environment (c .environment) (e ∙ is .environment) (t (is .tidyEnvironment))) refl
+turned-to : (c : Card) (t : Target) → backTo (withHistory c (lowered (c .history))) (last (c .history)) t ≡ turned c (turnTo t)
+unfolding backTo turnTo turned
+turned-to c (OwnUnit k) = refl
+turned-to c Lacking = refl
+turned-to c Other = refl
+
+back-is : (c : Card) → goBack c ≡ turned c (turnOf (c .run .page) (c .history))
+unfolding goBack turnOf turned
+back-is c = both (eqb (c .history .pointer) 0) (λ t. rw t refl) (λ t. rw t (turned-to c (target (c .run .page) (last (c .history)))))
+
+turn-here : (m : State) (turn : Turn) → turn ≡ turnOf (take (m .len) (m .page)) (historyOf (m .trail)) → turn ≡ turnOf (marked noError (card m) .run .page) (marked noError (card m) .history)
+unfolding marked withEnvironment card runOf pageOf
+turn-here m turn f = f
+
+-- an entry that is gone back to has at most 65 bytes
+last-short : (m : State) → Ready m → (turn : Turn) → turn ≡ turnOf (take (m .len) (m .page)) (historyOf (m .trail)) → turn ≡ Page → length (last (historyOf (m .trail))) ≤ 65
+unfolding turnOf card
+last-short m r turn f y =
+    let h = historyOf (m .trail) in
+    both (eqb (h .pointer) 0)
+    (λ t. let z : turn ≡ Nowhere = rw t at f in nowhere-not-page (sym z ∙ y))
+    (λ t. bounds 2 65 (length (last h)) (last-wanted h (history-fit h (r .runs .history)) t) .1)
 
 pub run-out : (n k : ℕ) (m : State) (w : Counted) → steps (n - k) k (card m) ≡ w → Ready m → (before : List ℕ) → n ≤ k → k ≤ n → Counts (record { state = m; ran = record { outcome = On; count = k } }) before before w
 unfolding steps bufferAfter
@@ -171,32 +205,11 @@ module _ (n k : ℕ) (m : State) (w : Counted) (inv : steps (n - k) k (card m) �
       let e : record { count = k + 1; last = stepped (card m) } ≡ w = rw (one-less n k h, off) at inv in
       rw (← e) (record { outcome = x; count = refl; state = is; buffer = y })
 
-  -- a byte code that is done by value
-  module _ (before after : List ℕ) (o : Moved) (f : (d : Card) → Is m d → Running d → Sends o before after (stepped d)) (b : Bool) (x : b ≡ cond (goesOn (o .outcome)) false true) where
-    sent : Sends o before after (stepped (card m))
-    sent = f (card m) (r .is) (r .runs)
-
-    going : goesOn (stepped (card m) .outcome) ≡ goesOn (o .outcome)
-    going = ap goesOn (sym (sent .comes .outcome))
-
-    pub value-stops : b ≡ true → Counts (record { state = o .state; ran = record { outcome = o .outcome; count = k + 1 } }) before after w
-    value-stops t = stops-at (going ∙ ends (goesOn (o .outcome)) (sym x ∙ t)) (o .state) (sent .comes .state) (o .outcome) (sent .comes .outcome) before after (sent .buffer)
-
-    module _ (t : b ≡ false) where
-      on : goesOn (stepped (card m) .outcome) ≡ true
-      on = going ∙ goes (goesOn (o .outcome)) (sym x ∙ t)
-
-      pub value-steps : steps (n - (k + 1)) (k + 1) (card (o .state)) ≡ w
-      value-steps = on-steps on (o .state) (sent .comes .state)
-
-      pub value-ready : Ready (o .state)
-      value-ready = on-ready on (o .state) (sent .comes .state)
-
-      pub value-same : after ≡ before
-      value-same = sent .buffer ∙ quiet (stepped (card m) .card) before (stepped (card m) .outcome) on
-
   idle : card m .run .hand ≡ empty
   idle = idle-hand (card m .run .hand) (r .idle)
+
+  idle-now : handOf (m .hand) ≡ empty
+  idle-now = r .is .hand ∙ idle
 
   -- a step that came to a state in place
   module _ (o : State) (outcome : Outcome) (k′ : Comes (record { state = o; outcome = outcome }) (stepped (card m))) where
@@ -213,18 +226,28 @@ module _ (n k : ℕ) (m : State) (w : Counted) (inv : steps (n - k) k (card m) �
 
   -- a byte code that is done in place
   module _ (way : Way) (e : way ≡ wayAt (view (take (m .len) (m .page)) (m .environment) (m .temporary) (m .permanent)) (m .unit) (m .place)) where
-    plans : Plans (card m) (decide (card m)) way
-    plans = rw e (way-plans (card m) (take (m .len) (m .page)) (m .environment) (m .temporary) (m .permanent) (m .unit) (m .place) (view-is m (card m) (r .is) (take (m .len) (m .page)) refl) (sym (r .is .unit)) (sym (r .is .place)))
+    viewed : bare (card m) ≡ view (take (m .len) (m .page)) (m .environment) (m .temporary) (m .permanent)
+    viewed = view-is m (card m) (r .is) (take (m .len) (m .page)) refl
+
+    plan : decide (card m) ≡ planOf (card m) way
+    plan = rw e (way-plan (card m) (take (m .len) (m .page)) (m .environment) (m .temporary) (m .permanent) (m .unit) (m .place) viewed (sym (r .is .unit)) (sym (r .is .place)))
 
     inside : Inside (length (take (m .len) (m .page))) way
     inside = rw e (way-inside (take (m .len) (m .page)) (m .environment) (m .temporary) (m .permanent) (m .unit) (m .place))
+
+    short : Short (card m .run .page) way
+    short = rw (e, ← way-same (card m) (take (m .len) (m .page)) (m .environment) (m .temporary) (m .permanent) (m .unit) (m .place) viewed (sym (r .is .unit)) (sym (r .is .place))) (way-short (card m) (r .runs))
+
+    stepping : (v : Way) → way ≡ v → stepped (card m) ≡ applied (card m) (planOf (card m) v)
+    unfolding stepped
+    stepping v x = ap (applied (card m)) (rw x at plan)
 
     module _ (environment : List ℕ) (t : tidySlots (m .environment) ≡ true → tidySlots environment ≡ true) where
       module _ (a : slots environment ≡ set (slots (m .environment)) 5 (held 3 (0 ∷ 0 ∷ []))) where
         module _ (q : ℕ) (x : way ≡ Place q) where
           placing : Comes (record { state = record { page = m .page; len = m .len; environment = environment; temporary = m .temporary; permanent = m .permanent; trail = m .trail; guard = m .guard; hand = m .hand; wanted = m .wanted; unit = m .unit; place = q }; outcome = On }) (stepped (card m))
-          unfolding stepped applied moved
-          placing = rw (rw x at plans) (record { outcome = refl; state = placed-is m (card m) (r .is) environment t a idle q })
+          unfolding planOf applied moved
+          placing = rw (stepping (Place q) x) (record { outcome = refl; state = placed-is m (card m) (r .is) environment t a idle q })
 
           pub place-steps : steps (n - (k + 1)) (k + 1) (card (record { page = m .page; len = m .len; environment = environment; temporary = m .temporary; permanent = m .permanent; trail = m .trail; guard = m .guard; hand = m .hand; wanted = m .wanted; unit = m .unit; place = q })) ≡ w
           place-steps = comes-steps _ On placing refl
@@ -232,17 +255,35 @@ module _ (n k : ℕ) (m : State) (w : Counted) (inv : steps (n - k) k (card m) �
           pub place-ready : Ready (record { page = m .page; len = m .len; environment = environment; temporary = m .temporary; permanent = m .permanent; trail = m .trail; guard = m .guard; hand = m .hand; wanted = m .wanted; unit = m .unit; place = q })
           place-ready = comes-ready _ On placing refl
 
-        module _ (u : ℕ) (x : way ≡ Enter u) (trail : List ℕ) (b : judge (take (m .len) (m .page)) ≡ Accepted → historyOf trail ≡ leftBy (entryFor (take (m .len) (m .page)) (m .unit)) (historyOf (m .trail))) (v : tidyTrail (m .trail) ≡ true → tidyTrail trail ≡ true)
-            (s : List ℕ) (p : s ≡ take (m .len) (m .page)) (place : ℕ) (y : place ≡ entryOf s u) where
-          entering : Comes (record { state = record { page = m .page; len = m .len; environment = environment; temporary = m .temporary; permanent = m .permanent; trail = trail; guard = m .guard; hand = m .hand; wanted = m .wanted; unit = u; place = place }; outcome = On }) (stepped (card m))
-          unfolding stepped applied moved
-          entering = rw (rw x at plans) (record { outcome = refl; state = entered-is m (card m) (r .is) environment t a idle (r .runs .accepted) trail b v s p u place y })
+        module _ (trail : List ℕ) (b : judge (take (m .len) (m .page)) ≡ Accepted → historyOf trail ≡ leftBy (entryFor (take (m .len) (m .page)) (m .unit)) (historyOf (m .trail))) (v : tidyTrail (m .trail) ≡ true → tidyTrail trail ≡ true) where
+          module _ (u : ℕ) (x : way ≡ Enter u) (s : List ℕ) (p : s ≡ take (m .len) (m .page)) (place : ℕ) (y : place ≡ entryOf s u) where
+            entering : Comes (record { state = record { page = m .page; len = m .len; environment = environment; temporary = m .temporary; permanent = m .permanent; trail = trail; guard = m .guard; hand = m .hand; wanted = m .wanted; unit = u; place = place }; outcome = On }) (stepped (card m))
+            unfolding planOf applied moved
+            entering = rw (stepping (Enter u) x) (record { outcome = refl; state = entered-is m (card m) (r .is) environment t a idle (r .runs .accepted) trail b v s p u place y })
 
-          pub enter-steps : steps (n - (k + 1)) (k + 1) (card (record { page = m .page; len = m .len; environment = environment; temporary = m .temporary; permanent = m .permanent; trail = trail; guard = m .guard; hand = m .hand; wanted = m .wanted; unit = u; place = place })) ≡ w
-          enter-steps = comes-steps _ On entering refl
+            pub enter-steps : steps (n - (k + 1)) (k + 1) (card (record { page = m .page; len = m .len; environment = environment; temporary = m .temporary; permanent = m .permanent; trail = trail; guard = m .guard; hand = m .hand; wanted = m .wanted; unit = u; place = place })) ≡ w
+            enter-steps = comes-steps _ On entering refl
 
-          pub enter-ready : Ready (record { page = m .page; len = m .len; environment = environment; temporary = m .temporary; permanent = m .permanent; trail = trail; guard = m .guard; hand = m .hand; wanted = m .wanted; unit = u; place = place })
-          enter-ready = comes-ready _ On entering refl
+            pub enter-ready : Ready (record { page = m .page; len = m .len; environment = environment; temporary = m .temporary; permanent = m .permanent; trail = trail; guard = m .guard; hand = m .hand; wanted = m .wanted; unit = u; place = place })
+            enter-ready = comes-ready _ On entering refl
+
+          -- another page is wanted
+          module _ (start stop : ℕ) (x : way ≡ Away start stop) (wanted : List ℕ) (c : length (part (take (m .len) (m .page)) start stop) ≤ 65 → wordIn wanted ≡ part (take (m .len) (m .page)) start stop) (d : tidyWanted (m .wanted) ≡ true → tidyWanted wanted ≡ true)
+              (temporary : List ℕ) (kept : slots temporary ≡ keptBy (take (m .len) (m .page)) (keepList (take (m .len) (m .page))) (slots (m .temporary))) (i : tidySlots (m .temporary) ≡ true → tidySlots temporary ≡ true)
+              (guard : List ℕ) (guarded : length (bytesOf (take (m .len) (m .page)) (password (take (m .len) (m .page)))) ≤ 16 → guardOf guard ≡ guardBy (take (m .len) (m .page)) (password (take (m .len) (m .page)))) (j : tidyGuard (m .guard) ≡ true → tidyGuard guard ≡ true)
+              (o : State) (at : o ≡ laid (blank 4096) 0 environment temporary (m .permanent) trail guard (blank 257) wanted 0 0) where
+            asked : Is (record { page = m .page; len = m .len; environment = environment; temporary = m .temporary; permanent = m .permanent; trail = trail; guard = m .guard; hand = m .hand; wanted = wanted; unit = m .unit; place = m .place }) (withWanted (leaving (marked noError (card m))) (part (card m .run .page) start stop))
+            unfolding card runOf pageOf
+            asked =
+                new-wanted _ (leaving (marked noError (card m))) (left-is m (card m) (r .is) environment t a idle (r .runs .accepted) trail b v) wanted (part (take (m .len) (m .page)) start stop) (c (rw x at short)) (d (r .is .tidyWant))
+
+            departing : Comes (record { state = o; outcome = Wanted }) (stepped (card m))
+            unfolding planOf applied moved wanting withWanted leaving withHistory marked withEnvironment
+            departing = rw (stepping (Away start stop) x, at) (record { outcome = refl; state = rest-at _ _ asked (r .runs .accepted) temporary kept i guard guarded j })
+
+            pub away-counts : (before : List ℕ) → Counts (record { state = o; ran = record { outcome = Wanted; count = k + 1 } }) before before w
+            unfolding goesOn bufferAfter
+            away-counts before = comes-stops o Wanted departing refl before before (rw (← departing .outcome) refl)
 
         -- the areas are written, and the step goes on
         module _ (temporary permanent : List ℕ) (i : tidySlots (m .temporary) ≡ true → tidySlots temporary ≡ true) (j : tidyRecords (m .permanent) ≡ true → tidyRecords permanent ≡ true) (b : Bool) (z : b ≡ true) (s : List ℕ) (p : s ≡ take (m .len) (m .page)) where
@@ -252,8 +293,8 @@ module _ (n k : ℕ) (m : State) (w : Counted) (inv : steps (n - k) k (card m) �
 
           module _ (start stop : ℕ) (x : way ≡ Store start stop) (f : setAll (tlvs 1 s start stop) (view s (m .environment) (m .temporary) (m .permanent)) ≡ cond b (wrote (view s (m .environment) temporary permanent)) noRoom) where
             stored : Comes (record { state = record { page = m .page; len = m .len; environment = environment; temporary = temporary; permanent = permanent; trail = m .trail; guard = m .guard; hand = m .hand; wanted = m .wanted; unit = m .unit; place = stop }; outcome = On }) (stepped (card m))
-            unfolding stepped
-            stored = rw (rw x at plans) (set-done m (card m) (r .is) s p (r .runs .accepted) b temporary permanent _ start stop f z i j (written stop))
+            unfolding planOf
+            stored = rw (stepping (Store start stop) x) (set-done m (card m) (r .is) s p (r .runs .accepted) b temporary permanent _ start stop f z i j (written stop))
 
             pub store-steps : steps (n - (k + 1)) (k + 1) (card (record { page = m .page; len = m .len; environment = environment; temporary = temporary; permanent = permanent; trail = m .trail; guard = m .guard; hand = m .hand; wanted = m .wanted; unit = m .unit; place = stop })) ≡ w
             store-steps = comes-steps _ On stored refl
@@ -263,8 +304,8 @@ module _ (n k : ℕ) (m : State) (w : Counted) (inv : steps (n - k) k (card m) �
 
           module _ (number from to stop : ℕ) (x : way ≡ Length number from to stop) (f : write (view s (m .environment) (m .temporary) (m .permanent)) number 3 (shortest (length (joined (view s (m .environment) (m .temporary) (m .permanent)) (named (part s from to))))) ≡ cond b (wrote (view s (m .environment) temporary permanent)) noRoom) where
             counted : Comes (record { state = record { page = m .page; len = m .len; environment = environment; temporary = temporary; permanent = permanent; trail = m .trail; guard = m .guard; hand = m .hand; wanted = m .wanted; unit = m .unit; place = stop }; outcome = On }) (stepped (card m))
-            unfolding stepped
-            counted = rw (rw x at plans) (length-done m (card m) (r .is) s p (r .runs .accepted) b temporary permanent _ number from to stop f z i j (written stop))
+            unfolding planOf
+            counted = rw (stepping (Length number from to stop) x) (length-done m (card m) (r .is) s p (r .runs .accepted) b temporary permanent _ number from to stop f z i j (written stop))
 
             pub length-steps : steps (n - (k + 1)) (k + 1) (card (record { page = m .page; len = m .len; environment = environment; temporary = temporary; permanent = permanent; trail = m .trail; guard = m .guard; hand = m .hand; wanted = m .wanted; unit = m .unit; place = stop })) ≡ w
             length-steps = comes-steps _ On counted refl
@@ -272,46 +313,113 @@ module _ (n k : ℕ) (m : State) (w : Counted) (inv : steps (n - k) k (card m) �
             pub length-ready : Ready (record { page = m .page; len = m .len; environment = environment; temporary = temporary; permanent = permanent; trail = m .trail; guard = m .guard; hand = m .hand; wanted = m .wanted; unit = m .unit; place = stop })
             length-ready = comes-ready _ On counted refl
 
-      -- the page ends, by its own or because there is no room
-      module _ (temporary : List ℕ) (kept : slots temporary ≡ keptBy (take (m .len) (m .page)) (keepList (take (m .len) (m .page))) (slots (m .temporary))) (u : tidySlots (m .temporary) ≡ true → tidySlots temporary ≡ true)
+        -- going back
+        module _ (x : way ≡ Back) (turn : Turn) (f : turn ≡ turnOf (take (m .len) (m .page)) (historyOf (m .trail))) where
+          noted-here : Is (record { page = m .page; len = m .len; environment = environment; temporary = m .temporary; permanent = m .permanent; trail = m .trail; guard = m .guard; hand = m .hand; wanted = m .wanted; unit = m .unit; place = m .place }) (marked noError (card m))
+          noted-here = noted m (card m) (r .is) environment t a
+
+          turning : (v : Turn) → turn ≡ v → stepped (card m) ≡ turned (marked noError (card m)) v
+          unfolding planOf applied moved
+          turning v y = stepping Back x ∙ back-is (marked noError (card m)) ∙ ap (turned (marked noError (card m))) (sym (turn-here m turn f) ∙ y)
+
+          module _ (trail : List ℕ) (v : tidyTrail (m .trail) ≡ true → tidyTrail trail ≡ true) (g : historyOf trail ≡ lowered (historyOf (m .trail))) where
+            lowered-is : Is (record { page = m .page; len = m .len; environment = environment; temporary = m .temporary; permanent = m .permanent; trail = trail; guard = m .guard; hand = m .hand; wanted = m .wanted; unit = m .unit; place = m .place }) (withHistory (marked noError (card m)) (lowered (card m .history)))
+            unfolding card
+            lowered-is = new-history _ (marked noError (card m)) noted-here trail (lowered (historyOf (m .trail))) g (v (r .is .tidyHistory))
+
+            module _ (u : ℕ) (y : turn ≡ Unit u) (s : List ℕ) (p : s ≡ take (m .len) (m .page)) (place : ℕ) (z : place ≡ entryOf s u) where
+              returned : Is (record { page = m .page; len = m .len; environment = environment; temporary = m .temporary; permanent = m .permanent; trail = trail; guard = m .guard; hand = m .hand; wanted = m .wanted; unit = u; place = place }) (entered (withHistory (marked noError (card m)) (lowered (card m .history))) u)
+              returned = entry-is _ _ lowered-is u place (z ∙ ap (λ (q : List ℕ). entryOf q u) p) idle-now
+
+              returning : Comes (record { state = record { page = m .page; len = m .len; environment = environment; temporary = m .temporary; permanent = m .permanent; trail = trail; guard = m .guard; hand = m .hand; wanted = m .wanted; unit = u; place = place }; outcome = On }) (stepped (card m))
+              unfolding turned marked withEnvironment
+              returning = rw (turning (Unit u) y) (record { outcome = refl; state = returned })
+
+              pub back-steps : steps (n - (k + 1)) (k + 1) (card (record { page = m .page; len = m .len; environment = environment; temporary = m .temporary; permanent = m .permanent; trail = trail; guard = m .guard; hand = m .hand; wanted = m .wanted; unit = u; place = place })) ≡ w
+              back-steps = comes-steps _ On returning refl
+
+              pub back-ready : Ready (record { page = m .page; len = m .len; environment = environment; temporary = m .temporary; permanent = m .permanent; trail = trail; guard = m .guard; hand = m .hand; wanted = m .wanted; unit = u; place = place })
+              back-ready = comes-ready _ On returning refl
+
+      -- the page ends: by its own, by a refusal, or for want of something to go back to
+      module _ (trail wanted temporary : List ℕ) (kept : slots temporary ≡ keptBy (take (m .len) (m .page)) (keepList (take (m .len) (m .page))) (slots (m .temporary))) (u : tidySlots (m .temporary) ≡ true → tidySlots temporary ≡ true)
           (guard : List ℕ) (guarded : length (bytesOf (take (m .len) (m .page)) (password (take (m .len) (m .page)))) ≤ 16 → guardOf guard ≡ guardBy (take (m .len) (m .page)) (password (take (m .len) (m .page)))) (v : tidyGuard (m .guard) ≡ true → tidyGuard guard ≡ true)
-          (o : State) (at : o ≡ laid (blank 4096) 0 environment temporary (m .permanent) (m .trail) guard (blank 257) (m .wanted) 0 0) (before : List ℕ) where
-        marks : (bytes : List ℕ) → slots environment ≡ set (slots (m .environment)) 5 (held 3 bytes) → Is o (rested (marked bytes (card m)))
-        marks bytes a = rw at (marked-end m (card m) (r .is) (r .runs .accepted) environment t temporary kept u guard guarded v bytes a)
+          (o : State) (at : o ≡ laid (blank 4096) 0 environment temporary (m .permanent) trail guard (blank 257) wanted 0 0) (before : List ℕ) where
+        rests : (d : Card) → Is (record { page = m .page; len = m .len; environment = environment; temporary = m .temporary; permanent = m .permanent; trail = trail; guard = m .guard; hand = m .hand; wanted = wanted; unit = m .unit; place = m .place }) d → judge (d .run .page) ≡ Accepted → Is o (rested d)
+        rests d is ok = rw at (rest-at _ d is ok temporary kept u guard guarded v)
 
-        done-by : (done : Bool) → way ≡ End done → slots environment ≡ cond done (set (slots (m .environment)) 5 (held 3 (0 ∷ 0 ∷ []))) (slots (m .environment)) → Comes (record { state = o; outcome = Ended }) (stepped (card m))
-        unfolding stepped applied moved noError hex hexTo
-        done-by true x a = rw (rw x at plans) (record { outcome = refl; state = marks (0 ∷ 0 ∷ []) a })
-        done-by false x a = rw (rw x at plans) (record { outcome = refl; state = rw at (unmarked-end m (card m) (r .is) (r .runs .accepted) environment t temporary kept u guard guarded v a) })
+        -- going back to another page
+        module _ (a : slots environment ≡ set (slots (m .environment)) 5 (held 3 (0 ∷ 0 ∷ []))) (x : way ≡ Back) (turn : Turn) (f : turn ≡ turnOf (take (m .len) (m .page)) (historyOf (m .trail))) (y : turn ≡ Page)
+            (i : tidyTrail (m .trail) ≡ true → tidyTrail trail ≡ true) (g : historyOf trail ≡ lowered (historyOf (m .trail))) (c : length (last (historyOf (m .trail))) ≤ 65 → wordIn wanted ≡ last (historyOf (m .trail))) (d : tidyWanted (m .wanted) ≡ true → tidyWanted wanted ≡ true) where
+          fetching : Comes (record { state = o; outcome = Wanted }) (stepped (card m))
+          unfolding turned wanting withHistory marked withEnvironment withWanted card
+          fetching =
+              rw (turning a x turn f Page y)
+              (record {
+                outcome = refl;
+                state = rests _ (new-wanted _ _ (lowered-is a x turn f trail i g) wanted (last (historyOf (m .trail))) (c (last-short m r turn f y)) (d (r .is .tidyWant))) (r .runs .accepted);
+              })
 
-        pub end-counts : (done : Bool) → way ≡ End done → slots environment ≡ cond done (set (slots (m .environment)) 5 (held 3 (0 ∷ 0 ∷ []))) (slots (m .environment)) → Counts (record { state = o; ran = record { outcome = Ended; count = k + 1 } }) before before w
-        unfolding goesOn bufferAfter
-        end-counts done x a = let z = done-by done x a in comes-stops o Ended z refl before before (rw (← z .outcome) refl)
-
-        module _ (a : slots environment ≡ set (slots (m .environment)) 5 (held 3 (code Memory))) where
-          full : Comes (record { state = o; outcome = Refused Memory }) (applied (card m) (refuses Memory))
-          unfolding applied failed
-          full = record { outcome = refl; state = marks (code Memory) a }
-
-          full-for : (d : Card) → Is m d → judge (d .run .page) ≡ Accepted → Comes (record { state = o; outcome = Refused Memory }) (applied d (refuses Memory))
-          full-for d is ok = rw (← is-card m d is) full
-
-          full-counts : Comes (record { state = o; outcome = Refused Memory }) (stepped (card m)) → Counts (record { state = o; ran = record { outcome = Refused Memory; count = k + 1 } }) before before w
+          pub fetch-counts : Counts (record { state = o; ran = record { outcome = Wanted; count = k + 1 } }) before before w
           unfolding goesOn bufferAfter
-          full-counts z = comes-stops o (Refused Memory) z refl before before (rw (← z .outcome) refl)
+          fetch-counts = comes-stops o Wanted fetching refl before before (rw (← fetching .outcome) refl)
 
-          module _ (b : Bool) (z : b ≡ false) (s : List ℕ) (p : s ≡ take (m .len) (m .page)) (t′ q′ : List ℕ) where
-            pub store-full : (start stop : ℕ) → way ≡ Store start stop → setAll (tlvs 1 s start stop) (view s (m .environment) (m .temporary) (m .permanent)) ≡ cond b (wrote (view s (m .environment) t′ q′)) noRoom → Counts (record { state = o; ran = record { outcome = Refused Memory; count = k + 1 } }) before before w
-            unfolding stepped
-            store-full start stop x f = full-counts (rw (rw x at plans) (set-full m (card m) (r .is) s p (r .runs .accepted) b t′ q′ _ start stop f z full-for))
+        -- with the history and the reference as they were
+        module _ (same-trail : trail ≡ m .trail) (same-wanted : wanted ≡ m .wanted) where
+          marks : (bytes : List ℕ) → slots environment ≡ set (slots (m .environment)) 5 (held 3 bytes) → Is o (rested (marked bytes (card m)))
+          unfolding marked withEnvironment
+          marks bytes a = rests _ (rw (same-trail, same-wanted) (noted-as m (card m) (r .is) environment t bytes a)) (r .runs .accepted)
 
-            pub length-full-counts : (number from to stop : ℕ) → way ≡ Length number from to stop → write (view s (m .environment) (m .temporary) (m .permanent)) number 3 (shortest (length (joined (view s (m .environment) (m .temporary) (m .permanent)) (named (part s from to))))) ≡ cond b (wrote (view s (m .environment) t′ q′)) noRoom → Counts (record { state = o; ran = record { outcome = Refused Memory; count = k + 1 } }) before before w
-            unfolding stepped
-            length-full-counts number from to stop x f = full-counts (rw (rw x at plans) (length-full m (card m) (r .is) s p (r .runs .accepted) b t′ q′ _ number from to stop f z full-for))
+          done-by : (done : Bool) → way ≡ End done → slots environment ≡ cond done (set (slots (m .environment)) 5 (held 3 (0 ∷ 0 ∷ []))) (slots (m .environment)) → Comes (record { state = o; outcome = Ended }) (stepped (card m))
+          unfolding planOf applied moved noError hex hexTo withEnvironment
+          done-by true x a = rw (stepping (End true) x) (record { outcome = refl; state = marks (0 ∷ 0 ∷ []) a })
+          done-by false x a =
+              rw (stepping (End false) x)
+              (record {
+                outcome = refl;
+                state = rests _ (rw (same-trail, same-wanted) (new-environment m (card m) (r .is) environment (card m .environment) (a ∙ r .is .environment) (t (r .is .tidyEnvironment)))) (r .runs .accepted);
+              })
 
-          pub send-full : (tag start stop number : ℕ) → way ≡ Send tag start stop → number ≡ length (commandOf (take (m .len) (m .page)) (m .environment) (m .temporary) (m .permanent) tag start stop) → 255 < number → Counts (record { state = o; ran = record { outcome = Refused Memory; count = k + 1 } }) before before w
-          unfolding stepped issued
-          send-full tag start stop number x f l = full-counts (rw (rw x at plans) (issue-long m (card m) (r .is) (r .runs .accepted) tag start stop before _ (take (m .len) (m .page)) refl number f l full-for .comes))
+          ended-counts : Comes (record { state = o; outcome = Ended }) (stepped (card m)) → Counts (record { state = o; ran = record { outcome = Ended; count = k + 1 } }) before before w
+          unfolding goesOn bufferAfter
+          ended-counts z = comes-stops o Ended z refl before before (rw (← z .outcome) refl)
+
+          pub end-counts : (done : Bool) → way ≡ End done → slots environment ≡ cond done (set (slots (m .environment)) 5 (held 3 (0 ∷ 0 ∷ []))) (slots (m .environment)) → Counts (record { state = o; ran = record { outcome = Ended; count = k + 1 } }) before before w
+          end-counts done x a = ended-counts (done-by done x a)
+
+          pub nowhere-counts : slots environment ≡ set (slots (m .environment)) 5 (held 3 (0 ∷ 0 ∷ [])) → way ≡ Back → (turn : Turn) → turn ≡ turnOf (take (m .len) (m .page)) (historyOf (m .trail)) → turn ≡ Nowhere → Counts (record { state = o; ran = record { outcome = Ended; count = k + 1 } }) before before w
+          unfolding turned noError hex hexTo
+          nowhere-counts a x turn f y = ended-counts (rw (turning a x turn f Nowhere y) (record { outcome = refl; state = marks (0 ∷ 0 ∷ []) a }))
+
+          module _ (why : Refusal) (a : slots environment ≡ set (slots (m .environment)) 5 (held 3 (code why))) where
+            refused : Comes (record { state = o; outcome = Refused why }) (applied (card m) (refuses why))
+            unfolding applied failed
+            refused = record { outcome = refl; state = marks (code why) a }
+
+            refused-for : (d : Card) → Is m d → judge (d .run .page) ≡ Accepted → Comes (record { state = o; outcome = Refused why }) (applied d (refuses why))
+            refused-for d is ok = rw (← is-card m d is) refused
+
+            refused-counts : Comes (record { state = o; outcome = Refused why }) (stepped (card m)) → Counts (record { state = o; ran = record { outcome = Refused why; count = k + 1 } }) before before w
+            unfolding goesOn bufferAfter
+            refused-counts z = comes-stops o (Refused why) z refl before before (rw (← z .outcome) refl)
+
+            pub refuse-counts : way ≡ Refuse why → Counts (record { state = o; ran = record { outcome = Refused why; count = k + 1 } }) before before w
+            unfolding planOf
+            refuse-counts x = refused-counts (rw (stepping (Refuse why) x) refused)
+
+          module _ (a : slots environment ≡ set (slots (m .environment)) 5 (held 3 (code Memory))) where
+            module _ (b : Bool) (z : b ≡ false) (s : List ℕ) (p : s ≡ take (m .len) (m .page)) (t′ q′ : List ℕ) where
+              pub store-full : (start stop : ℕ) → way ≡ Store start stop → setAll (tlvs 1 s start stop) (view s (m .environment) (m .temporary) (m .permanent)) ≡ cond b (wrote (view s (m .environment) t′ q′)) noRoom → Counts (record { state = o; ran = record { outcome = Refused Memory; count = k + 1 } }) before before w
+              unfolding planOf
+              store-full start stop x f = refused-counts Memory a (rw (stepping (Store start stop) x) (set-full m (card m) (r .is) s p (r .runs .accepted) b t′ q′ _ start stop f z (refused-for Memory a)))
+
+              pub count-full : (number from to stop : ℕ) → way ≡ Length number from to stop → write (view s (m .environment) (m .temporary) (m .permanent)) number 3 (shortest (length (joined (view s (m .environment) (m .temporary) (m .permanent)) (named (part s from to))))) ≡ cond b (wrote (view s (m .environment) t′ q′)) noRoom → Counts (record { state = o; ran = record { outcome = Refused Memory; count = k + 1 } }) before before w
+              unfolding planOf
+              count-full number from to stop x f = refused-counts Memory a (rw (stepping (Length number from to stop) x) (length-full m (card m) (r .is) s p (r .runs .accepted) b t′ q′ _ number from to stop f z (refused-for Memory a)))
+
+            pub send-full : (tag start stop number : ℕ) → way ≡ Send tag start stop → number ≡ length (commandOf (take (m .len) (m .page)) (m .environment) (m .temporary) (m .permanent) tag start stop) → 255 < number → Counts (record { state = o; ran = record { outcome = Refused Memory; count = k + 1 } }) before before w
+            unfolding planOf issued
+            send-full tag start stop number x f l = refused-counts Memory a (rw (stepping (Send tag start stop) x) (issue-long m (card m) (r .is) (r .runs .accepted) tag start stop before _ (take (m .len) (m .page)) refl number f l (refused-for Memory a) .comes))
 
     -- the command goes out
     module _ (tag start stop number : ℕ) (x : way ≡ Send tag start stop) (f : number ≡ length (commandOf (take (m .len) (m .page)) (m .environment) (m .temporary) (m .permanent) tag start stop)) (l : number ≤ 255) (hand before after : List ℕ)
@@ -326,11 +434,11 @@ module _ (n k : ℕ) (m : State) (w : Counted) (inv : steps (n - k) k (card m) �
       sends = send-is m (card m) (r .is) text hand before after (rw (← f) l) g y
 
       sending : stepped (card m) ≡ moved (card m) (send text)
-      unfolding stepped applied issued
+      unfolding planOf applied issued
       sending =
           let v : text ≡ command (card m) (executeOf (card m .run .page) tag start stop) = command-is m (card m) (r .is) (r .runs .accepted) tag start stop before (record { state = gone-out; outcome = On }) (take (m .len) (m .page)) refl in
-          let short : ltb 255 (length (command (card m) (executeOf (card m .run .page) tag start stop))) ≡ false = rw (← v, ← f) (le-ltb _ _ l) in
-          rw (rw x at plans, short, ← v) refl
+          let fits : ltb 255 (length (command (card m) (executeOf (card m .run .page) tag start stop))) ≡ false = rw (← v, ← f) (le-ltb _ _ l) in
+          rw (stepping (Send tag start stop) x, fits, ← v) refl
 
       pub send-counts : Counts (record { state = gone-out; ran = record { outcome = Command number; count = k + 1 } }) before after w
       unfolding goesOn

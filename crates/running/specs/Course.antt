@@ -1,9 +1,14 @@
 -- A run of steps, past the tests of 32, 35 and 33.
 use Prim.Native.Nat.{ℕ}
-use mathlib.Core.Bool.{true}
+use mathlib.Core.Bool.{true, cond}
 use mathlib.Core.Path.{_≡_}
 use mathlib.Core.List.{List}
-use Rattle.rules.specs.Card.{isEmpty}
+use lib.Dec.{eqb}
+use Rattle.rules.specs.declared.Target.{Target}
+use Rattle.rules.specs.declared.Target.the-variants.{Unit as OwnUnit, Lacking, Other}
+use Rattle.rules.specs.Reference.{target}
+use Rattle.rules.specs.Card.{History, isEmpty}
+use Rattle.rules.specs.Trail.{last}
 use Rattle.rules.specs.Command.{executeOf, command}
 use Rattle.rules.specs.Calls.{bufferAfter, Counted}
 use Rattle.rules.proofs.StaysCardStep.{Running}
@@ -11,6 +16,8 @@ use Rattle.variable.specs.View.{view}
 use Rattle.state.specs.declared.State.{State}
 use Rattle.state.specs.State.{Is, card}
 use Rattle.running.specs.declared.Course.{Course}
+use Rattle.running.specs.declared.Turn.{Turn}
+use Rattle.running.specs.declared.Turn.the-variants.{Nowhere, Unit, Page}
 
 -- a page runs and awaits no response
 pub record Ready (m : State) : Type 0 where
@@ -33,3 +40,12 @@ laid page len environment temporary permanent trail guard hand wanted unit place
 -- the command of an Execute USAT Command, by what is lent
 abbrev pub commandOf : (page env temp perm : List ℕ) (tag start stop : ℕ) → List ℕ
 commandOf page env temp perm tag start stop = command (view page env temp perm) (executeOf page tag start stop)
+
+-- where going back leads (4.6)
+unfoldable pub turnTo : Target → Turn
+turnTo (OwnUnit k) = Unit k
+turnTo Lacking = Page
+turnTo Other = Page
+
+unfoldable pub turnOf : List ℕ → History → Turn
+turnOf s h = cond (eqb (h .pointer) 0) Nowhere (turnTo (target s (last h)))

@@ -2,28 +2,32 @@
 use rules::Outcome;
 use rules::Ran;
 use rules::Refusal;
+use rules::Target;
 use state::State;
 use ways::Way;
 ghost use mathlib.Core.Path.{_≡_};
-ghost use mathlib.Core.Bool.{true, false, cond};
+ghost use mathlib.Core.Bool.{true, cond};
 ghost use mathlib.Core.List.{_∷_, []};
-ghost use Prim.Native.Nat.{_≤_, _<_};
+ghost use Prim.Native.Nat.{ℕ, _≤_, _<_};
 ghost use lib.ListN.{length, take, set};
 ghost use Rattle.rules.specs.declared.Judged.the-variants.{Accepted};
-ghost use Rattle.rules.specs.declared.Refusal.the-variants.{Memory};
 ghost use Rattle.rules.specs.Numbers.{code};
+ghost use Rattle.rules.specs.Bytes.{part};
 ghost use Rattle.rules.specs.Loader.{judge};
 ghost use Rattle.rules.specs.Page.{keepList, password, bytesOf};
 ghost use Rattle.rules.specs.Card.{held};
 ghost use Rattle.rules.specs.Keep.{keptBy, guardBy};
-ghost use Rattle.rules.specs.Calls.{goesOn, steps};
+ghost use Rattle.rules.specs.Reference.{target};
+ghost use Rattle.rules.specs.Trail.{last, lowered};
+ghost use Rattle.rules.specs.Calls.{steps};
 ghost use Rattle.slots.specs.Slots.{slots, tidySlots};
 ghost use Rattle.pour.specs.Pour.{blank, poured};
 ghost use Rattle.trail.specs.Trail.{historyOf, tidyTrail};
-ghost use Rattle.word.specs.Word.{laidMarked, guardOf, tidyGuard};
+ghost use Rattle.word.specs.Word.{laidMarked, wordIn, guardOf, tidyGuard, tidyWanted};
 ghost use Rattle.leaving.specs.Leaving.{entryFor, leftBy};
 ghost use Rattle.state.specs.State.{card};
-ghost use Rattle.running.specs.Course.{laid, commandOf, Ready, Counts};
+ghost use Rattle.running.specs.declared.Turn.the-variants.{Nowhere, Unit as UnitAt, Page};
+ghost use Rattle.running.specs.Course.{laid, commandOf, turnTo, turnOf, Ready, Counts};
 
 // The state after a run, with what ended it and the steps that it took.
 pub struct Course {
@@ -31,17 +35,11 @@ pub struct Course {
     pub ran: Ran,
 }
 
-// Any outcome but gone on ends a run.
-fn stops(outcome: Outcome) -> bool
-    ensures { λ r. ⌜ r ≡ cond (goesOn outcome) false true ⌝ }
-{
-    match outcome {
-        Outcome::On => false,
-        Outcome::Command(n) => true,
-        Outcome::Page => true,
-        Outcome::Ended => true,
-        Outcome::Refused(why) => true,
-    }
+// Where going back leads: nowhere, to a unit of the page, or to another page.
+pub enum Turn {
+    Nowhere,
+    Unit(usize),
+    Page,
 }
 
 // A unit that a branch leaves is added to the history.
@@ -139,23 +137,74 @@ fn send_command<'a>(
     n
 }
 
-// A write found no room: '05' says so, and the keep rule applies.
-fn refuse_room(
+// A refusal: '05' says which, and the keep rule applies.
+fn refuse(
     environment: &mut [u8; 16640],
     temporary: &mut [u8; 16640],
     guard: &mut [u8; 18],
     page: &[u8; 4096],
     len: usize,
+    why: Refusal,
 )
-    ensures { λ _. ⌜ slots (now (environment .exit)) ≡ set (slots (now (environment .entry))) 5 (held 3 (code Memory)) ⌝ }
+    ensures { λ _. ⌜ slots (now (environment .exit)) ≡ set (slots (now (environment .entry))) 5 (held 3 (code why)) ⌝ }
     ensures { λ _. ⌜ (tidySlots (now (environment .entry)) ≡ true → tidySlots (now (environment .exit)) ≡ true) ⌝ }
     ensures { λ _. ⌜ slots (now (temporary .exit)) ≡ keptBy (take len (now (page .entry))) (keepList (take len (now (page .entry)))) (slots (now (temporary .entry))) ⌝ }
     ensures { λ _. ⌜ (tidySlots (now (temporary .entry)) ≡ true → tidySlots (now (temporary .exit)) ≡ true) ⌝ }
     ensures { λ _. ⌜ (length (bytesOf (take len (now (page .entry))) (password (take len (now (page .entry))))) ≤ 16 → guardOf (now (guard .exit)) ≡ guardBy (take len (now (page .entry))) (password (take len (now (page .entry))))) ⌝ }
     ensures { λ _. ⌜ (tidyGuard (now (guard .entry)) ≡ true → tidyGuard (now (guard .exit)) ≡ true) ⌝ }
 {
-    moving::note_refusal(environment, Refusal::Memory);
+    moving::note_refusal(environment, why);
     keep_rule(temporary, guard, page, len);
+}
+
+// The reference wanted, from a place of the page up to another.
+fn want_from(wanted: &mut [u8; 66], page: &[u8; 4096], len: usize, start: usize, stop: usize)
+    ensures { λ _. ⌜ (length (part (take len (now (page .entry))) start stop) ≤ 65 → wordIn (now (wanted .exit)) ≡ part (take len (now (page .entry))) start stop) ⌝ }
+    ensures { λ _. ⌜ (tidyWanted (now (wanted .entry)) ≡ true → tidyWanted (now (wanted .exit)) ≡ true) ⌝ }
+{
+    moving::want(
+        wanted,
+        slice::part_of(state::page_of(page, len), start, stop),
+    );
+}
+
+// Back to a unit, or to a page whose reference is then wanted.
+fn turn_to(wanted: &mut [u8; 66], page: &[u8; 4096], len: usize, entry: &[u8]) -> Turn
+    ensures { λ r. ⌜ r ≡ turnTo (target (take len (now (page .entry))) (now (entry .entry))) ⌝ }
+    ensures { λ r. ⌜ (r ≡ Page → length (now (entry .entry)) ≤ 65 → wordIn (now (wanted .exit)) ≡ now (entry .entry)) ⌝ }
+    ensures { λ r. ⌜ ((k : ℕ) → r ≡ UnitAt k → now (wanted .exit) ≡ now (wanted .entry)) ⌝ }
+    ensures { λ _. ⌜ (tidyWanted (now (wanted .entry)) ≡ true → tidyWanted (now (wanted .exit)) ≡ true) ⌝ }
+{
+    match reference::target(state::page_of(page, len), entry) {
+        Target::Unit(k) => Turn::Unit(k),
+        Target::Lacking => {
+            moving::want(wanted, entry);
+            Turn::Page
+        }
+        Target::Other => {
+            moving::want(wanted, entry);
+            Turn::Page
+        }
+    }
+}
+
+// 8.4 Go Back: the entry at the pointer, which moves down.
+fn turn_back(trail: &mut [u8; 1058], wanted: &mut [u8; 66], page: &[u8; 4096], len: usize) -> Turn
+    ensures { λ r. ⌜ r ≡ turnOf (take len (now (page .entry))) (historyOf (now (trail .entry))) ⌝ }
+    ensures { λ r. ⌜ (r ≡ Nowhere → (now (trail .exit) ≡ now (trail .entry)) × (now (wanted .exit) ≡ now (wanted .entry))) ⌝ }
+    ensures { λ r. ⌜ ((k : ℕ) → r ≡ UnitAt k → (historyOf (now (trail .exit)) ≡ lowered (historyOf (now (trail .entry)))) × (now (wanted .exit) ≡ now (wanted .entry))) ⌝ }
+    ensures { λ r. ⌜ (r ≡ Page → historyOf (now (trail .exit)) ≡ lowered (historyOf (now (trail .entry)))) ⌝ }
+    ensures { λ r. ⌜ (r ≡ Page → length (last (historyOf (now (trail .entry)))) ≤ 65 → wordIn (now (wanted .exit)) ≡ last (historyOf (now (trail .entry)))) ⌝ }
+    ensures { λ _. ⌜ (tidyTrail (now (trail .entry)) ≡ true → tidyTrail (now (trail .exit)) ≡ true) ⌝ }
+    ensures { λ _. ⌜ (tidyWanted (now (wanted .entry)) ≡ true → tidyWanted (now (wanted .exit)) ≡ true) ⌝ }
+{
+    if trail::pointer_of(trail) == 0 {
+        return Turn::Nowhere;
+    }
+    let before = *trail;
+    let entry = trail::last_entry(&before);
+    trail::lower(trail);
+    turn_to(wanted, page, len, entry)
 }
 
 // Up to n steps of a page that runs.
@@ -163,8 +212,8 @@ pub fn take_steps(state: State, most: usize, out: &mut [u8]) -> Course
     requires { ⌜ Ready state × (255 ≤ length (now out)) ⌝ }
     ensures { λ r. ⌜ Counts r (now (out .entry)) (now (out .exit)) (steps most 0 (card state)) ⌝ }
 {
-    let mut page = state.page;
-    let mut len = state.len;
+    let page = state.page;
+    let len = state.len;
     let mut environment = state.environment;
     let mut temporary = state.temporary;
     let mut permanent = state.permanent;
@@ -230,7 +279,14 @@ pub fn take_steps(state: State, most: usize, out: &mut [u8]) -> Course
                     place = stop;
                     continue;
                 }
-                refuse_room(&mut environment, &mut temporary, &mut guard, &page, len);
+                refuse(
+                    &mut environment,
+                    &mut temporary,
+                    &mut guard,
+                    &page,
+                    len,
+                    Refusal::Memory,
+                );
                 return Course {
                     state: at_rest(
                         &environment,
@@ -260,7 +316,14 @@ pub fn take_steps(state: State, most: usize, out: &mut [u8]) -> Course
                     place = stop;
                     continue;
                 }
-                refuse_room(&mut environment, &mut temporary, &mut guard, &page, len);
+                refuse(
+                    &mut environment,
+                    &mut temporary,
+                    &mut guard,
+                    &page,
+                    len,
+                    Refusal::Memory,
+                );
                 return Course {
                     state: at_rest(
                         &environment,
@@ -310,7 +373,14 @@ pub fn take_steps(state: State, most: usize, out: &mut [u8]) -> Course
                         },
                     };
                 }
-                refuse_room(&mut environment, &mut temporary, &mut guard, &page, len);
+                refuse(
+                    &mut environment,
+                    &mut temporary,
+                    &mut guard,
+                    &page,
+                    len,
+                    Refusal::Memory,
+                );
                 return Course {
                     state: at_rest(
                         &environment,
@@ -326,42 +396,92 @@ pub fn take_steps(state: State, most: usize, out: &mut [u8]) -> Course
                     },
                 };
             }
-            Way::Otherwise => {
-                let moved = stepping::take_step(
-                    State {
-                        page,
-                        len,
-                        environment,
-                        temporary,
-                        permanent,
-                        trail,
-                        guard,
-                        hand,
-                        wanted,
-                        unit,
-                        place,
-                    },
-                    out,
+            Way::Refuse(why) => {
+                refuse(
+                    &mut environment,
+                    &mut temporary,
+                    &mut guard,
+                    &page,
+                    len,
+                    why,
                 );
-                let next = moved.state;
-                let outcome = moved.outcome;
-                if stops(outcome) {
-                    return Course {
-                        state: next,
-                        ran: Ran { outcome, count },
-                    };
+                return Course {
+                    state: at_rest(
+                        &environment,
+                        &temporary,
+                        &permanent,
+                        &trail,
+                        &guard,
+                        &wanted,
+                    ),
+                    ran: Ran {
+                        outcome: Outcome::Refused(why),
+                        count,
+                    },
+                };
+            }
+            Way::Away(start, stop) => {
+                state::note(&mut environment, 0, 0);
+                leave_unit(&mut trail, &page, len, unit);
+                want_from(&mut wanted, &page, len, start, stop);
+                keep_rule(&mut temporary, &mut guard, &page, len);
+                return Course {
+                    state: at_rest(
+                        &environment,
+                        &temporary,
+                        &permanent,
+                        &trail,
+                        &guard,
+                        &wanted,
+                    ),
+                    ran: Ran {
+                        outcome: Outcome::Page,
+                        count,
+                    },
+                };
+            }
+            Way::Back => {
+                state::note(&mut environment, 0, 0);
+                match turn_back(&mut trail, &mut wanted, &page, len) {
+                    Turn::Unit(k) => {
+                        unit = k;
+                        place = unit::entry_of(state::page_of(&page, len), k);
+                    }
+                    Turn::Nowhere => {
+                        keep_rule(&mut temporary, &mut guard, &page, len);
+                        return Course {
+                            state: at_rest(
+                                &environment,
+                                &temporary,
+                                &permanent,
+                                &trail,
+                                &guard,
+                                &wanted,
+                            ),
+                            ran: Ran {
+                                outcome: Outcome::Ended,
+                                count,
+                            },
+                        };
+                    }
+                    Turn::Page => {
+                        keep_rule(&mut temporary, &mut guard, &page, len);
+                        return Course {
+                            state: at_rest(
+                                &environment,
+                                &temporary,
+                                &permanent,
+                                &trail,
+                                &guard,
+                                &wanted,
+                            ),
+                            ran: Ran {
+                                outcome: Outcome::Page,
+                                count,
+                            },
+                        };
+                    }
                 }
-                page = next.page;
-                len = next.len;
-                environment = next.environment;
-                temporary = next.temporary;
-                permanent = next.permanent;
-                trail = next.trail;
-                guard = next.guard;
-                hand = next.hand;
-                wanted = next.wanted;
-                unit = next.unit;
-                place = next.place;
             }
         }
     }

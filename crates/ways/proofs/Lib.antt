@@ -1,3 +1,4 @@
 pub mod WayLaws
 pub mod Steps
 pub mod Bounds
+pub mod Short

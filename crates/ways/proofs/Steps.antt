@@ -1,35 +1,33 @@
--- What a way says of a card's step holds.
+-- The way of a card's step stands for its plan.
 -- Assumes nothing.
 use Prim.Native.Nat.{ℕ, _+_, _%_}
 use mathlib.Core.Bool.{Bool, true, false, cond}
 use mathlib.Core.List.{List, []}
-use mathlib.Core.Path.{_≡_, refl}
+use mathlib.Core.Path.{_≡_, refl, ap, _∙_}
 use lib.ListN.{length, getD}
 use lib.Dec.{eqb}
-use native.Mathlib.Omega.{arith}
-use borrow.Author.Tests.{eqb-true, eqb-false, ne-eqb}
 use Rattle.rules.specs.declared.Head.{Head}
 use Rattle.rules.specs.declared.Head.the-variants.{Tlv, Past}
 use Rattle.rules.specs.declared.Target.{Target}
 use Rattle.rules.specs.declared.Target.the-variants.{Unit as UnitAt, Lacking, Other}
 use Rattle.rules.specs.declared.Action.{Action}
-use Rattle.rules.specs.declared.Action.the-variants.{Pass, Next, Quit, Back, Retry, Go}
+use Rattle.rules.specs.declared.Action.the-variants.{Pass, Next, Quit, Back as GoBack, Retry, Go}
 use Rattle.rules.specs.declared.Complaint.{Complaint}
 use Rattle.rules.specs.declared.Complaint.the-variants.{Nothing, Undefined, Secured, Misused}
 use Rattle.rules.specs.declared.Refusal.the-variants.{Disallowed}
 use Rattle.rules.specs.Bytes.{part}
 use Rattle.rules.specs.Tlv.{headAt}
-use Rattle.rules.specs.Tlvs.{tlvs, plain}
-use Rattle.rules.specs.Pieces.{named}
+use Rattle.rules.specs.Tlvs.{tlvs}
+use Rattle.rules.specs.Pieces.{full, named}
 use Rattle.rules.specs.Shape.{attribute}
-use Rattle.rules.specs.Page.{codeAt}
+use Rattle.rules.specs.Page.{service, codeAt}
 use Rattle.rules.specs.Reference.{target}
 use Rattle.rules.specs.Handler.{handle}
 use Rattle.rules.specs.Card.{Card}
-use Rattle.rules.specs.Store.{writing, worse, write}
+use Rattle.rules.specs.Store.{area, writingIn, writing, worse, write}
 use Rattle.rules.specs.Value.{complaint, joined, shortest}
 use Rattle.rules.specs.Command.{executeOf, executeComplaint, allowed, command}
-use Rattle.rules.specs.Step.{refuses, does, unless, onwards, finish, branchBy, branch, perform, storing, settingComplaint, setAll, setVariable, listAt, getLength, exit, execute, byteCode, planBy, planFor, here, decide, settingVariables, branching, exiting, executing, gettingLength}
+use Rattle.rules.specs.Step.{Plan, refuses, does, unless, onwards, finish, branchBy, branch, perform, storing, settingComplaint, setAll, setVariable, listAt, getLength, exit, execute, ByteCode, settingVariables, goingBack, branching, exiting, executing, gettingLength, unknown, byteCode, planBy, planFor, here, decide}
 use Rattle.variable.specs.View.{seen, bare, view}
 use Rattle.value.proofs.Bare.{bare-complaint}
 use Rattle.execute.proofs.Bare.{bare-execute, bare-allowed}
@@ -38,130 +36,108 @@ use Rattle.branching.specs.declared.Branch.the-variants.{Refused, Onwards, Towa
 use Rattle.branching.specs.Branch.{branchChoice, takenOn}
 use Rattle.branching.proofs.Taken.{branch-taken}
 use Rattle.storing.proofs.StoreLaws.{bare-setting}
-use Rattle.ways.specs.declared.Way.the-variants.{End, Send, Otherwise}
-use Rattle.ways.specs.Way.{wayTo, branchWay, actionWay, exitWay, storeWay, lengthBy, lengthWay, sendWay, codeWay, wayAt, issued, Plans}
+use Rattle.ways.specs.declared.Way.{Way}
+use Rattle.ways.specs.declared.Way.the-variants.{End, Refuse, Store, Length, Send}
+use Rattle.ways.specs.Way.{wayTo, branchWay, actionWay, exitWay, unlessWay, lengthWay, listWay, sendWay, wayBy, codeWay, wayAt, issued, planOf}
 
-to-plans : (c : Card) (r : List ℕ) (t : Target) → Plans c (branchBy c r t) (wayTo t)
-unfolding wayTo branchBy
-to-plans c r (UnitAt k) = refl
-to-plans c r Lacking = tt
-to-plans c r Other = tt
+to-plan : (c : Card) (start stop : ℕ) (t : Target) → branchBy c (part (c .run .page) start stop) t ≡ planOf c (wayTo start stop t)
+unfolding wayTo branchBy planOf
+to-plan c start stop (UnitAt k) = refl
+to-plan c start stop Lacking = refl
+to-plan c start stop Other = refl
 
-taken-plans : (c : Card) (next : ℕ) (b : Branch) → Plans c (takenOn c next b) (branchWay (c .run .page) next b)
-unfolding takenOn branchWay branch
-taken-plans c next (Refused r) = tt
-taken-plans c next Onwards = refl
-taken-plans c next (Towards start stop) = to-plans c (part (c .run .page) start stop) (target (c .run .page) (part (c .run .page) start stop))
+taken-plan : (c : Card) (next : ℕ) (b : Branch) → takenOn c next b ≡ planOf c (branchWay (c .run .page) next b)
+unfolding takenOn branchWay planOf branch
+taken-plan c next (Refused r) = refl
+taken-plan c next Onwards = refl
+taken-plan c next (Towards start stop) = to-plan c start stop (target (c .run .page) (part (c .run .page) start stop))
 
-action-plans : (c : Card) (next : ℕ) (a : Action) → Plans c (perform c next finish a) (actionWay (c .run .page) next a)
-unfolding perform actionWay branch
-action-plans c next Pass = refl
-action-plans c next Next = refl
-action-plans c next Quit = refl
-action-plans c next Back = tt
-action-plans c next Retry = refl
-action-plans c next (Go start stop) = to-plans c (part (c .run .page) start stop) (target (c .run .page) (part (c .run .page) start stop))
+action-plan : (c : Card) (next : ℕ) (a : Action) → perform c next finish a ≡ planOf c (actionWay (c .run .page) next a)
+unfolding perform actionWay planOf branch
+action-plan c next Pass = refl
+action-plan c next Next = refl
+action-plan c next Quit = refl
+action-plan c next GoBack = refl
+action-plan c next Retry = refl
+action-plan c next (Go start stop) = to-plan c start stop (target (c .run .page) (part (c .run .page) start stop))
 
-exit-by : (c : Card) (tag start stop : ℕ) (b : Bool) → Plans c (cond b (does c finish) (perform c stop finish (handle (c .run .page) (c .run .unit) 0x10))) (cond b (End true) (actionWay (c .run .page) stop (handle (c .run .page) (c .run .unit) 0x10)))
-exit-by c tag start stop true = refl
-exit-by c tag start stop false = action-plans c stop (handle (c .run .page) (c .run .unit) 0x10)
+exit-by : (c : Card) (stop : ℕ) (a : Action) (b : Bool) → cond b (does c finish) (perform c stop finish a) ≡ planOf c (cond b (End true) (actionWay (c .run .page) stop a))
+unfolding planOf
+exit-by c stop a true = refl
+exit-by c stop a false = action-plan c stop a
 
-exit-plans : (c : Card) (tag start stop : ℕ) → Plans c (exit c tag start stop) (exitWay (c .run .page) (c .run .unit) tag start stop)
+exit-plan : (c : Card) (tag start stop : ℕ) → exit c tag start stop ≡ planOf c (exitWay (c .run .page) (c .run .unit) tag start stop)
 unfolding exit exitWay
-exit-plans c tag start stop = exit-by c tag start stop (eqb (attribute (c .run .page) tag start stop % 2) 1)
+exit-plan c tag start stop = exit-by c stop (handle (c .run .page) (c .run .unit) 0x10) (eqb (attribute (c .run .page) tag start stop % 2) 1)
 
-store-plans : (c : Card) (start stop : ℕ) (w : Complaint) → Plans c (unless w (storing (onwards stop) (setAll (tlvs 1 (c .run .page) start stop) c))) (storeWay start stop w)
-unfolding unless storeWay
-store-plans c start stop Nothing = refl
-store-plans c start stop Undefined = tt
-store-plans c start stop Secured = tt
-store-plans c start stop Misused = tt
+unless-plan : (c : Card) (w : Complaint) (p : Plan) (v : Way) → p ≡ planOf c v → unless w p ≡ planOf c (unlessWay w v)
+unfolding unless unlessWay planOf
+unless-plan c Nothing p v e = e
+unless-plan c Undefined p v e = refl
+unless-plan c Secured p v e = refl
+unless-plan c Misused p v e = refl
 
-length-by : (c : Card) (n from to stop : ℕ) (w : Complaint) → Plans c (unless w (storing (onwards stop) (write c n 3 (shortest (length (joined c (named (part (c .run .page) from to)))))))) (lengthBy n from to stop w)
-unfolding unless lengthBy
-length-by c n from to stop Nothing = refl
-length-by c n from to stop Undefined = tt
-length-by c n from to stop Secured = tt
-length-by c n from to stop Misused = tt
+store-plan : (c : Card) (start stop : ℕ) → storing (onwards stop) (setAll (tlvs 1 (c .run .page) start stop) c) ≡ planOf c (Store start stop)
+unfolding planOf
+store-plan c start stop = refl
 
-length-plans : (c : Card) (n stop : ℕ) (h : Head) → Plans c (unless (worse (writing c n) (complaint c [] (listAt c h))) (storing (onwards stop) (write c n 3 (shortest (length (joined c (listAt c h))))))) (lengthWay (bare c) n stop h)
-unfolding lengthWay listAt writing bare seen
-length-plans c n stop (Tlv tag from to) = rw (bare-complaint c [] (named (part (c .run .page) from to))) (length-by c n from to stop (worse (writing c n) (complaint c [] (named (part (c .run .page) from to)))))
-length-plans c n stop Past = tt
+count-plan : (c : Card) (n from to stop : ℕ) → storing (onwards stop) (write c n 3 (shortest (length (joined c (named (part (c .run .page) from to)))))) ≡ planOf c (Length n from to stop)
+unfolding planOf
+count-plan c n from to stop = refl
 
-allowed-plans : (c : Card) (tag start stop : ℕ) (b : Bool) → Plans c (cond b (issued c (command c (executeOf (c .run .page) tag start stop))) (refuses Disallowed)) (cond b (Send tag start stop) Otherwise)
-allowed-plans c tag start stop true = refl
-allowed-plans c tag start stop false = tt
+-- no list is an empty one
+no-list : (s : List ℕ) → named (part s 0 0) ≡ full
+unfolding named part
+no-list s = refl
 
-send-plans : (c : Card) (tag start stop : ℕ) (w : Complaint) → Plans c (unless w (cond (allowed c (executeOf (c .run .page) tag start stop)) (issued c (command c (executeOf (c .run .page) tag start stop))) (refuses Disallowed))) (sendWay (bare c) tag start stop w)
-unfolding unless sendWay bare seen
-send-plans c tag start stop Nothing = rw (bare-allowed c (executeOf (c .run .page) tag start stop)) (allowed-plans c tag start stop (allowed c (executeOf (c .run .page) tag start stop)))
-send-plans c tag start stop Undefined = tt
-send-plans c tag start stop Secured = tt
-send-plans c tag start stop Misused = tt
+set-plan : (c : Card) (start stop : ℕ) → setVariable c start stop ≡ planOf c (unlessWay (settingComplaint (bare c) [] (tlvs 1 (c .run .page) start stop)) (Store start stop))
+unfolding setVariable
+set-plan c start stop =
+    rw (bare-setting c [] (tlvs 1 (c .run .page) start stop)) (unless-plan c (settingComplaint c [] (tlvs 1 (c .run .page) start stop)) (storing (onwards stop) (setAll (tlvs 1 (c .run .page) start stop) c)) (Store start stop) (store-plan c start stop))
 
--- the byte codes by their tags
-is-branch : (tag : ℕ) → tag ≡ 0x44 → byteCode tag ≡ branching
-unfolding byteCode plain
-is-branch tag e = rw e refl
+length-plan : (c : Card) (n from to stop : ℕ) → unless (worse (writing c n) (complaint c [] (named (part (c .run .page) from to)))) (storing (onwards stop) (write c n 3 (shortest (length (joined c (named (part (c .run .page) from to))))))) ≡ planOf c (lengthWay (bare c) n from to stop)
+unfolding lengthWay writing bare seen
+length-plan c n from to stop =
+    let w = worse (writingIn (service (c .run .page)) (area n)) (complaint c [] (named (part (c .run .page) from to))) in
+    rw (bare-complaint c [] (named (part (c .run .page) from to))) (unless-plan c w (storing (onwards stop) (write c n 3 (shortest (length (joined c (named (part (c .run .page) from to))))))) (Length n from to stop) (count-plan c n from to stop))
 
-is-setting : (tag : ℕ) → tag ≡ 0x40 → byteCode tag ≡ settingVariables
-unfolding byteCode plain
-is-setting tag e = rw e refl
+list-plan : (c : Card) (n stop : ℕ) (h : Head) → unless (worse (writing c n) (complaint c [] (listAt c h))) (storing (onwards stop) (write c n 3 (shortest (length (joined c (listAt c h)))))) ≡ planOf c (listWay (bare c) n stop h)
+unfolding listWay listAt
+list-plan c n stop (Tlv tag from to) = length-plan c n from to stop
+list-plan c n stop Past = rw (← no-list (c .run .page)) (length-plan c n 0 0 stop)
 
-is-length : (tag : ℕ) → tag ≡ 0x48 → byteCode tag ≡ gettingLength
-unfolding byteCode plain
-is-length tag e = rw e refl
+allowed-plan : (c : Card) (tag start stop : ℕ) (b : Bool) → cond b (issued c (command c (executeOf (c .run .page) tag start stop))) (refuses Disallowed) ≡ planOf c (cond b (Send tag start stop) (Refuse Disallowed))
+unfolding planOf
+allowed-plan c tag start stop true = refl
+allowed-plan c tag start stop false = refl
 
-is-exit : (tag : ℕ) → (tag ≡ 0x44 → ⊥) → eqb (plain tag) 0x45 ≡ true → byteCode tag ≡ exiting
-unfolding byteCode plain
-is-exit tag n f =
-    let e : tag % 128 ≡ 0x45 = eqb-true _ _ f in
-    let a : tag ≡ 0x40 → ⊥ = λ x. absurd (omega arith) in
-    simp (ne-eqb _ _ a, e, ne-eqb _ _ n)
+send-plan : (c : Card) (tag start stop : ℕ) → execute c (executeOf (c .run .page) tag start stop) ≡ planOf c (sendWay (bare c) tag start stop)
+unfolding execute sendWay issued bare seen
+send-plan c tag start stop =
+    let x = executeOf (c .run .page) tag start stop in
+    rw (bare-execute c x, bare-allowed c x) (unless-plan c (executeComplaint c x) (cond (allowed c x) (issued c (command c x)) (refuses Disallowed)) (cond (allowed c x) (Send tag start stop) (Refuse Disallowed)) (allowed-plan c tag start stop (allowed c x)))
 
-is-execute : (tag : ℕ) → (tag ≡ 0x44 → ⊥) → eqb (plain tag) 0x46 ≡ true → byteCode tag ≡ executing
-unfolding byteCode plain
-is-execute tag n f =
-    let e : tag % 128 ≡ 0x46 = eqb-true _ _ f in
-    let a : tag ≡ 0x40 → ⊥ = λ x. absurd (omega arith) in
-    simp (ne-eqb _ _ a, e, ne-eqb _ _ n)
+code-plan : (c : Card) (tag start stop : ℕ) (k : ByteCode) → planBy c tag start stop k ≡ planOf c (wayBy (bare c) (c .run .unit) tag start stop k)
+unfolding planBy wayBy getLength planOf bare seen
+code-plan c tag start stop settingVariables = set-plan c start stop
+code-plan c tag start stop goingBack = refl
+code-plan c tag start stop branching = branch-taken c start stop ∙ taken-plan c stop (branchChoice (bare c) start stop)
+code-plan c tag start stop exiting = exit-plan c tag start stop
+code-plan c tag start stop executing = send-plan c tag start stop
+code-plan c tag start stop gettingLength = list-plan c (getD (c .run .page) start 0) stop (headAt (c .run .page) (start + 1) stop)
+code-plan c tag start stop unknown = refl
 
-module _ (c : Card) (tag start stop : ℕ) where
-  by-set : eqb tag 0x40 ≡ true → Plans c (planBy c tag start stop (byteCode tag)) (storeWay start stop (settingComplaint (bare c) [] (tlvs 1 (c .run .page) start stop)))
-  unfolding planBy setVariable
-  by-set e = rw (is-setting tag (eqb-true _ _ e), bare-setting c [] (tlvs 1 (c .run .page) start stop)) (store-plans c start stop (settingComplaint c [] (tlvs 1 (c .run .page) start stop)))
+head-plan : (c : Card) (h : Head) → planFor c h ≡ planOf c (codeWay (bare c) (c .run .unit) h)
+unfolding planFor codeWay planOf
+head-plan c (Tlv tag start stop) = code-plan c tag start stop (byteCode tag)
+head-plan c Past = refl
 
-  by-length : eqb tag 0x48 ≡ true → Plans c (planBy c tag start stop (byteCode tag)) (lengthWay (bare c) (getD (c .run .page) start 0) stop (headAt (c .run .page) (start + 1) stop))
-  unfolding planBy getLength
-  by-length e = rw (is-length tag (eqb-true _ _ e)) (length-plans c (getD (c .run .page) start 0) stop (headAt (c .run .page) (start + 1) stop))
-
-  by-execute : (tag ≡ 0x44 → ⊥) → eqb (plain tag) 0x46 ≡ true → Plans c (planBy c tag start stop (byteCode tag)) (sendWay (bare c) tag start stop (executeComplaint (bare c) (executeOf (c .run .page) tag start stop)))
-  unfolding planBy execute issued
-  by-execute n e = rw (is-execute tag n e, bare-execute c (executeOf (c .run .page) tag start stop)) (send-plans c tag start stop (executeComplaint c (executeOf (c .run .page) tag start stop)))
-
-  code-plans : (b₁ : Bool) → eqb tag 0x44 ≡ b₁ → (b₂ : Bool) → eqb (plain tag) 0x45 ≡ b₂ → (b₃ : Bool) → eqb tag 0x40 ≡ b₃ → (b₄ : Bool) → eqb tag 0x48 ≡ b₄ → (b₅ : Bool) → eqb (plain tag) 0x46 ≡ b₅
-      → Plans c (planBy c tag start stop (byteCode tag)) (cond b₁ (branchWay (c .run .page) stop (branchChoice (bare c) start stop)) (cond b₂ (exitWay (c .run .page) (c .run .unit) tag start stop)
-      (cond b₃ (storeWay start stop (settingComplaint (bare c) [] (tlvs 1 (c .run .page) start stop))) (cond b₄ (lengthWay (bare c) (getD (c .run .page) start 0) stop (headAt (c .run .page) (start + 1) stop))
-      (cond b₅ (sendWay (bare c) tag start stop (executeComplaint (bare c) (executeOf (c .run .page) tag start stop))) Otherwise)))))
-  unfolding planBy
-  code-plans true e₁ b₂ e₂ b₃ e₃ b₄ e₄ b₅ e₅ = rw (is-branch tag (eqb-true _ _ e₁), branch-taken c start stop) (taken-plans c stop (branchChoice (bare c) start stop))
-  code-plans false e₁ true e₂ b₃ e₃ b₄ e₄ b₅ e₅ = rw (is-exit tag (eqb-false _ _ e₁) e₂) (exit-plans c tag start stop)
-  code-plans false e₁ false e₂ true e₃ b₄ e₄ b₅ e₅ = by-set e₃
-  code-plans false e₁ false e₂ false e₃ true e₄ b₅ e₅ = by-length e₄
-  code-plans false e₁ false e₂ false e₃ false e₄ true e₅ = by-execute (eqb-false _ _ e₁) e₅
-  code-plans false e₁ false e₂ false e₃ false e₄ false e₅ = tt
-
-head-plans : (c : Card) (h : Head) → Plans c (planFor c h) (codeWay (bare c) (c .run .unit) h)
-unfolding planFor codeWay bare seen
-head-plans c (Tlv tag start stop) = code-plans c tag start stop (eqb tag 0x44) refl (eqb (plain tag) 0x45) refl (eqb tag 0x40) refl (eqb tag 0x48) refl (eqb (plain tag) 0x46) refl
-head-plans c Past = refl
-
-own-plans : (c : Card) → Plans c (decide c) (wayAt (bare c) (c .run .unit) (c .run .place))
+own-plan : (c : Card) → decide c ≡ planOf c (wayAt (bare c) (c .run .unit) (c .run .place))
 unfolding decide here wayAt bare seen
-own-plans c = head-plans c (codeAt (c .run .page) (c .run .unit) (c .run .place))
+own-plan c = head-plan c (codeAt (c .run .page) (c .run .unit) (c .run .place))
 
-pub way-plans : (c : Card) (page env temp perm : List ℕ) (unit place : ℕ) → bare c ≡ view page env temp perm → c .run .unit ≡ unit → c .run .place ≡ place → Plans c (decide c) (wayAt (view page env temp perm) unit place)
-way-plans c page env temp perm unit place e f g =
-    let same : wayAt (bare c) (c .run .unit) (c .run .place) ≡ wayAt (view page env temp perm) unit place = rw (e, f, g) refl in
-    rw same at (own-plans c)
+pub way-same : (c : Card) (page env temp perm : List ℕ) (unit place : ℕ) → bare c ≡ view page env temp perm → c .run .unit ≡ unit → c .run .place ≡ place → wayAt (bare c) (c .run .unit) (c .run .place) ≡ wayAt (view page env temp perm) unit place
+way-same c page env temp perm unit place e f g = rw (e, f, g) refl
+
+pub way-plan : (c : Card) (page env temp perm : List ℕ) (unit place : ℕ) → bare c ≡ view page env temp perm → c .run .unit ≡ unit → c .run .place ≡ place → decide c ≡ planOf c (wayAt (view page env temp perm) unit place)
+way-plan c page env temp perm unit place e f g = own-plan c ∙ ap (planOf c) (way-same c page env temp perm unit place e f g)

@@ -2,23 +2,23 @@
 -- Assumes nothing.
 use native.Mathlib.Omega.{arith}
 use Prim.Native.Nat.{_-_, _≤_}
-use mathlib.Core.Path.{_≡_, refl, ap, _∙_}
+use mathlib.Core.Path.{_≡_, refl, ap}
 use lib.ListN.{length}
 use Rattle.rules.specs.Calls.{steps}
 use Rattle.state.specs.State.{card}
 use Rattle.running.specs.Course.{Ready, laid}
-use Rattle.running.proofs.RunLaws.{run-out, value-stops, value-steps, value-ready, value-same, place-steps, place-ready, enter-steps, enter-ready, store-steps, store-ready, length-steps, length-ready, end-counts, store-full, length-full-counts, send-full, send-counts, store-ordered, store-within, send-ordered, send-within, length-within, served, loop-laws}
+use Rattle.running.proofs.RunLaws.{run-out, place-steps, place-ready, enter-steps, enter-ready, store-steps, store-ready, length-steps, length-ready, back-steps, back-ready, end-counts, refuse-counts, away-counts, nowhere-counts, fetch-counts, store-full, count-full, send-full, send-counts, store-ordered, store-within, send-ordered, send-within, length-within, served, loop-laws}
 use borrow.Author.Needs.{needs}
 use Rattle.running.proofs.take_steps.Statement.{statement}
 use Rattle.running.proofs.take_steps.Tie as tie
 
 abbrev Inv-loop : tie.InvT-loop
-Inv-loop most out₀ page₀ len₀ environment₀ temporary₀ permanent₀ trail₀ guard₀ hand₀ wanted₀ unit₀ place₀ count₀ out page len environment temporary permanent trail guard hand wanted unit place count =
+Inv-loop most out₀ page len environment₀ temporary₀ permanent₀ trail₀ guard₀ hand₀ wanted₀ unit₀ place₀ count₀ out environment temporary permanent trail guard hand wanted unit place count =
     (count ≤ most) × (out ≡ out₀) × (255 ≤ length out) × Ready (laid page len environment temporary permanent trail guard hand wanted unit place)
-    × (steps (most - count) count (card (laid page len environment temporary permanent trail guard hand wanted unit place)) ≡ steps most 0 (card (laid page₀ len₀ environment₀ temporary₀ permanent₀ trail₀ guard₀ hand₀ wanted₀ unit₀ place₀)))
+    × (steps (most - count) count (card (laid page len environment temporary permanent trail guard hand wanted unit place)) ≡ steps most 0 (card (laid page len environment₀ temporary₀ permanent₀ trail₀ guard₀ hand₀ wanted₀ unit₀ place₀)))
 
 abbrev μ-loop : tie.MeasureT-loop
-μ-loop most out₀ page₀ len₀ environment₀ temporary₀ permanent₀ trail₀ guard₀ hand₀ wanted₀ unit₀ place₀ count₀ out page len environment temporary permanent trail guard hand wanted unit place count =
+μ-loop most out₀ page len environment₀ temporary₀ permanent₀ trail₀ guard₀ hand₀ wanted₀ unit₀ place₀ count₀ out environment temporary permanent trail guard hand wanted unit place count =
     most - count
 
 loop-holds : tie.Need-loop-holds Inv-loop μ-loop
@@ -55,12 +55,14 @@ loop-again c =
     let way = c .before .before .before .before .before .before .before .before .before .before .before .way-at .ensures in
     let note = c .before .before .before .before .before .before .note .ensures in
     let leave = c .before .before .before .leave-unit .ensures in
-    let x = c .before .before .before .before .before .before .before .before .before .way .given .1 in (
+    let x = c .before .before .before .before .before .before .before .before .before .way .given .1 in
+    let page = c .before .page-of .ensures .0 in
+    let entry = c .entry-of .ensures in (
       omega arith,
       l .inv .1,
       l .inv .2,
-      enter-ready _ (l .count) _ _ (l .inv .4) (l .inv .3) h _ way _ (note .1) (note .0) _ x _ (leave .0) (leave .1) _ (c .before .page-of .ensures .0) _ (c .entry-of .ensures),
-      enter-steps _ (l .count) _ _ (l .inv .4) (l .inv .3) h _ way _ (note .1) (note .0) _ x _ (leave .0) (leave .1) _ (c .before .page-of .ensures .0) _ (c .entry-of .ensures),
+      enter-ready _ (l .count) _ _ (l .inv .4) (l .inv .3) h _ way _ (note .1) (note .0) _ (leave .0) (leave .1) _ x _ page _ entry,
+      enter-steps _ (l .count) _ _ (l .inv .4) (l .inv .3) h _ way _ (note .1) (note .0) _ (leave .0) (leave .1) _ x _ page _ entry,
     )
 
 enum-known-way-2 : tie.Need-enum-known-way-2 Inv-loop μ-loop
@@ -109,7 +111,7 @@ returns c =
     let way = c .before .before .before .before .before .before .before .before .before .before .before .before .before .before .before .before .way-at .ensures in
     let note = c .before .before .before .before .before .before .before .before .before .before .before .note-end .ensures in
     let keep = c .before .before .before .before .before .before .before .keep-rule .ensures in
-    rw (← l .inv .1) (end-counts _ (l .count) _ _ (l .inv .4) (l .inv .3) h _ way _ (note .1) _ (keep .0) (keep .1 .0) _ (keep .1 .1 .0) (keep .1 .1 .1) _ (c .at-rest .ensures) _ _ (c .before .before .before .before .before .before .before .before .before .before .before .before .before .before .way3 .given .1) (note .0))
+    rw (← l .inv .1) (end-counts _ (l .count) _ _ (l .inv .4) (l .inv .3) h _ way _ (note .1) _ _ _ (keep .0) (keep .1 .0) _ (keep .1 .1 .0) (keep .1 .1 .1) _ (c .at-rest .ensures) _ refl refl _ (c .before .before .before .before .before .before .before .before .before .before .before .before .before .before .way3 .given .1) (note .0))
 
 enum-known-way-4 : tie.Need-enum-known-way-4 Inv-loop μ-loop
 enum-known-way-4 c = search (needs, loop-laws)
@@ -140,16 +142,17 @@ loop-again-3 c =
     let note = c .note3 .ensures in
     let set = c .before .before .before .set-all .ensures in
     let room = c .before .before .if1 .taken in
+    let page = c .before .before .before .before .before .before .before .page-of2 .ensures .0 in
     let x = c .before .before .before .before .before .before .before .before .before .before .way4 .given .1 in (
       omega arith,
       l .inv .1,
       l .inv .2,
-      store-ready _ (l .count) _ _ (l .inv .4) (l .inv .3) h _ way _ (note .1) (note .0) _ _ (set .1 .1 .0) (set .1 .1 .1) _ room _ (c .before .before .before .before .before .before .before .page-of2 .ensures .0) _ _ x (set .0),
-      store-steps _ (l .count) _ _ (l .inv .4) (l .inv .3) h _ way _ (note .1) (note .0) _ _ (set .1 .1 .0) (set .1 .1 .1) _ room _ (c .before .before .before .before .before .before .before .page-of2 .ensures .0) _ _ x (set .0),
+      store-ready _ (l .count) _ _ (l .inv .4) (l .inv .3) h _ way _ (note .1) (note .0) _ _ (set .1 .1 .0) (set .1 .1 .1) _ room _ page _ _ x (set .0),
+      store-steps _ (l .count) _ _ (l .inv .4) (l .inv .3) h _ way _ (note .1) (note .0) _ _ (set .1 .1 .0) (set .1 .1 .1) _ room _ page _ _ x (set .0),
     )
 
-refuse-room-requires : tie.Need-refuse-room-requires Inv-loop μ-loop
-refuse-room-requires c κs = search (needs, loop-laws)
+refuse-requires : tie.Need-refuse-requires Inv-loop μ-loop
+refuse-requires c κs = search (needs, loop-laws)
 
 at-rest-requires-2 : tie.Need-at-rest-requires-2 Inv-loop μ-loop
 at-rest-requires-2 c κs = search (needs, loop-laws)
@@ -166,8 +169,8 @@ returns-2 c =
     let set = c .before .before .before .before .before .before .before .before .before .before .before .before .before .set-all .ensures in
     let none = c .before .before .before .before .before .before .before .before .before .before .before .before .if1 .left in
     let same = set .1 .0 none in
-    let refuse = c .before .before .before .before .before .before .before .refuse-room .ensures in
-    rw (← l .inv .1) (store-full _ (l .count) _ _ (l .inv .4) (l .inv .3) h _ way _ (refuse .1 .0) _ (rw (same .0) at (refuse .1 .1 .0)) (rw (same .0) at (refuse .1 .1 .1 .0)) _ (refuse .1 .1 .1 .1 .0) (refuse .1 .1 .1 .1 .1) _ (rw (same .1) at (c .at-rest2 .ensures)) _ (refuse .0) _ none _ (c .before .before .before .before .before .before .before .before .before .before .before .before .before .before .before .before .before .page-of2 .ensures .0) _ _ _ _ (c .before .before .before .before .before .before .before .before .before .before .before .before .before .before .before .before .before .before .before .before .way4 .given .1) (set .0))
+    let refuse = c .before .before .before .before .before .before .before .refuse .ensures in
+    rw (← l .inv .1) (store-full _ (l .count) _ _ (l .inv .4) (l .inv .3) h _ way _ (refuse .1 .0) _ _ _ (rw (same .0) at (refuse .1 .1 .0)) (rw (same .0) at (refuse .1 .1 .1 .0)) _ (refuse .1 .1 .1 .1 .0) (refuse .1 .1 .1 .1 .1) _ (rw (same .1) at (c .at-rest2 .ensures)) _ refl refl (refuse .0) _ none _ (c .before .before .before .before .before .before .before .before .before .before .before .before .before .before .before .before .before .page-of2 .ensures .0) _ _ _ _ (c .before .before .before .before .before .before .before .before .before .before .before .before .before .before .before .before .before .before .before .before .way4 .given .1) (set .0))
 
 enum-known-way-5 : tie.Need-enum-known-way-5 Inv-loop μ-loop
 enum-known-way-5 c = search (needs, loop-laws)
@@ -197,16 +200,17 @@ loop-again-4 c =
     let note = c .note4 .ensures in
     let set = c .before .before .before .set-length .ensures in
     let room = c .before .before .if2 .taken in
+    let page = c .before .before .before .before .before .before .before .page-of3 .ensures .0 in
     let x = c .before .before .before .before .before .before .before .before .before .before .way5 .given .1 in (
       omega arith,
       l .inv .1,
       l .inv .2,
-      length-ready _ (l .count) _ _ (l .inv .4) (l .inv .3) h _ way _ (note .1) (note .0) _ _ (set .1 .1 .0) (set .1 .1 .1) _ room _ (c .before .before .before .before .before .before .before .page-of3 .ensures .0) _ _ _ _ x (set .0),
-      length-steps _ (l .count) _ _ (l .inv .4) (l .inv .3) h _ way _ (note .1) (note .0) _ _ (set .1 .1 .0) (set .1 .1 .1) _ room _ (c .before .before .before .before .before .before .before .page-of3 .ensures .0) _ _ _ _ x (set .0),
+      length-ready _ (l .count) _ _ (l .inv .4) (l .inv .3) h _ way _ (note .1) (note .0) _ _ (set .1 .1 .0) (set .1 .1 .1) _ room _ page _ _ _ _ x (set .0),
+      length-steps _ (l .count) _ _ (l .inv .4) (l .inv .3) h _ way _ (note .1) (note .0) _ _ (set .1 .1 .0) (set .1 .1 .1) _ room _ page _ _ _ _ x (set .0),
     )
 
-refuse-room-requires-2 : tie.Need-refuse-room-requires-2 Inv-loop μ-loop
-refuse-room-requires-2 c κs = search (needs, loop-laws)
+refuse-requires-2 : tie.Need-refuse-requires-2 Inv-loop μ-loop
+refuse-requires-2 c κs = search (needs, loop-laws)
 
 at-rest-requires-3 : tie.Need-at-rest-requires-3 Inv-loop μ-loop
 at-rest-requires-3 c κs = search (needs, loop-laws)
@@ -223,8 +227,8 @@ returns-3 c =
     let set = c .before .before .before .before .before .before .before .before .before .before .before .before .before .set-length .ensures in
     let none = c .before .before .before .before .before .before .before .before .before .before .before .before .if2 .left in
     let same = set .1 .0 none in
-    let refuse = c .before .before .before .before .before .before .before .refuse-room2 .ensures in
-    rw (← l .inv .1) (length-full-counts _ (l .count) _ _ (l .inv .4) (l .inv .3) h _ way _ (refuse .1 .0) _ (rw (same .0) at (refuse .1 .1 .0)) (rw (same .0) at (refuse .1 .1 .1 .0)) _ (refuse .1 .1 .1 .1 .0) (refuse .1 .1 .1 .1 .1) _ (rw (same .1) at (c .at-rest3 .ensures)) _ (refuse .0) _ none _ (c .before .before .before .before .before .before .before .before .before .before .before .before .before .before .before .before .before .page-of3 .ensures .0) _ _ _ _ _ _ (c .before .before .before .before .before .before .before .before .before .before .before .before .before .before .before .before .before .before .before .before .way5 .given .1) (set .0))
+    let refuse = c .before .before .before .before .before .before .before .refuse2 .ensures in
+    rw (← l .inv .1) (count-full _ (l .count) _ _ (l .inv .4) (l .inv .3) h _ way _ (refuse .1 .0) _ _ _ (rw (same .0) at (refuse .1 .1 .0)) (rw (same .0) at (refuse .1 .1 .1 .0)) _ (refuse .1 .1 .1 .1 .0) (refuse .1 .1 .1 .1 .1) _ (rw (same .1) at (c .at-rest3 .ensures)) _ refl refl (refuse .0) _ none _ (c .before .before .before .before .before .before .before .before .before .before .before .before .before .before .before .before .before .page-of3 .ensures .0) _ _ _ _ _ _ (c .before .before .before .before .before .before .before .before .before .before .before .before .before .before .before .before .before .before .before .before .way5 .given .1) (set .0))
 
 enum-known-way-6 : tie.Need-enum-known-way-6 Inv-loop μ-loop
 enum-known-way-6 c = search (needs, loop-laws)
@@ -251,8 +255,8 @@ returns-4 c =
     let out = sent .1 .0 short in
     rw (← l .inv .1) (send-counts _ (l .count) _ _ (l .inv .4) (l .inv .3) h _ way _ _ _ _ (c .before .before .before .before .before .before .before .before .before .before .before .way6 .given .1) (sent .0) short _ _ _ (out .0) (out .1))
 
-refuse-room-requires-3 : tie.Need-refuse-room-requires-3 Inv-loop μ-loop
-refuse-room-requires-3 c κs = search (needs, loop-laws)
+refuse-requires-3 : tie.Need-refuse-requires-3 Inv-loop μ-loop
+refuse-requires-3 c κs = search (needs, loop-laws)
 
 at-rest-requires-4 : tie.Need-at-rest-requires-4 Inv-loop μ-loop
 at-rest-requires-4 c κs = search (needs, loop-laws)
@@ -269,51 +273,157 @@ returns-5 c =
     let sent = c .before .before .before .before .before .before .before .before .before .before .before .before .before .before .before .send-command .ensures in
     let long = c .before .before .before .before .before .before .before .before .before .before .before .before .if3 .left in
     let same = sent .1 .1 long in
-    let refuse = c .before .before .before .before .before .before .before .refuse-room3 .ensures in
-    rw (← l .inv .1, same .1) (send-full _ (l .count) _ _ (l .inv .4) (l .inv .3) h _ way _ (refuse .1 .0) _ (refuse .1 .1 .0) (refuse .1 .1 .1 .0) _ (refuse .1 .1 .1 .1 .0) (refuse .1 .1 .1 .1 .1) _ (c .at-rest4 .ensures) _ (refuse .0) _ _ _ _ (c .before .before .before .before .before .before .before .before .before .before .before .before .before .before .before .before .before .before .before .before .before .before .before .way6 .given .1) (sent .0) long)
+    let refuse = c .before .before .before .before .before .before .before .refuse3 .ensures in
+    rw (← l .inv .1, same .1) (send-full _ (l .count) _ _ (l .inv .4) (l .inv .3) h _ way _ (refuse .1 .0) _ _ _ (refuse .1 .1 .0) (refuse .1 .1 .1 .0) _ (refuse .1 .1 .1 .1 .0) (refuse .1 .1 .1 .1 .1) _ (c .at-rest4 .ensures) _ refl refl (refuse .0) _ _ _ _ (c .before .before .before .before .before .before .before .before .before .before .before .before .before .before .before .before .before .before .before .before .before .before .before .way6 .given .1) (sent .0) long)
+
+enum-known-way-7 : tie.Need-enum-known-way-7 Inv-loop μ-loop
+enum-known-way-7 c = search (needs, loop-laws)
+
+refuse-requires-4 : tie.Need-refuse-requires-4 Inv-loop μ-loop
+refuse-requires-4 c κs = search (needs, loop-laws)
+
+at-rest-requires-5 : tie.Need-at-rest-requires-5 Inv-loop μ-loop
+at-rest-requires-5 c κs = search (needs, loop-laws)
+
+same-length-6 : tie.Need-same-length-6 Inv-loop μ-loop
+same-length-6 c =
+    ap length (c .before .before .before .before .before .before .before .before .before .before .before .before .before .before .before .before .before .before .before .before .before .loop .inv .1)
+
+returns-6 : tie.Need-returns-6 Inv-loop μ-loop
+returns-6 c =
+    let l = c .before .before .before .before .before .before .before .before .before .before .before .before .before .before .before .before .before .before .before .before .before .loop in
+    let h = c .before .before .before .before .before .before .before .before .before .before .before .before .before .before .before .before .before .before .before .before .loop-test .taken in
+    let way = c .before .before .before .before .before .before .before .before .before .before .before .before .before .before .before .way-at .ensures in
+    let refuse = c .before .before .before .before .before .before .before .refuse4 .ensures in
+    rw (← l .inv .1) (refuse-counts _ (l .count) _ _ (l .inv .4) (l .inv .3) h _ way _ (refuse .1 .0) _ _ _ (refuse .1 .1 .0) (refuse .1 .1 .1 .0) _ (refuse .1 .1 .1 .1 .0) (refuse .1 .1 .1 .1 .1) _ (c .at-rest5 .ensures) _ refl refl _ (refuse .0) (c .before .before .before .before .before .before .before .before .before .before .before .before .before .way7 .given .1))
+
+enum-known-way-8 : tie.Need-enum-known-way-8 Inv-loop μ-loop
+enum-known-way-8 c = search (needs, loop-laws)
+
+note-requires-5 : tie.Need-note-requires-5 Inv-loop μ-loop
+note-requires-5 c κs = search (needs, loop-laws)
+
+leave-unit-requires-2 : tie.Need-leave-unit-requires-2 Inv-loop μ-loop
+leave-unit-requires-2 c κs = search (needs, loop-laws)
+
+want-from-requires : tie.Need-want-from-requires Inv-loop μ-loop
+want-from-requires c κs = search (needs, loop-laws)
+
+keep-rule-requires-2 : tie.Need-keep-rule-requires-2 Inv-loop μ-loop
+keep-rule-requires-2 c κs = search (needs, loop-laws)
+
+at-rest-requires-6 : tie.Need-at-rest-requires-6 Inv-loop μ-loop
+at-rest-requires-6 c κs = search (needs, loop-laws)
+
+same-length-7 : tie.Need-same-length-7 Inv-loop μ-loop
+same-length-7 c =
+    ap length (c .before .before .before .before .before .before .before .before .before .before .before .before .before .before .before .before .before .before .before .before .before .before .before .before .before .before .before .before .loop .inv .1)
+
+returns-7 : tie.Need-returns-7 Inv-loop μ-loop
+returns-7 c =
+    let l = c .before .before .before .before .before .before .before .before .before .before .before .before .before .before .before .before .before .before .before .before .before .before .before .before .before .before .before .before .loop in
+    let h = c .before .before .before .before .before .before .before .before .before .before .before .before .before .before .before .before .before .before .before .before .before .before .before .before .before .before .before .loop-test .taken in
+    let way = c .before .before .before .before .before .before .before .before .before .before .before .before .before .before .before .before .before .before .before .before .before .before .way-at .ensures in
+    let note = c .before .before .before .before .before .before .before .before .before .before .before .before .before .before .before .before .before .note5 .ensures in
+    let leave = c .before .before .before .before .before .before .before .before .before .before .before .before .before .before .leave-unit2 .ensures in
+    let want = c .before .before .before .before .before .before .before .before .before .before .before .want-from .ensures in
+    let keep = c .before .before .before .before .before .before .before .keep-rule2 .ensures in
+    rw (← l .inv .1) (away-counts _ (l .count) _ _ (l .inv .4) (l .inv .3) h _ way _ (note .1) (note .0) _ (leave .0) (leave .1) _ _ (c .before .before .before .before .before .before .before .before .before .before .before .before .before .before .before .before .before .before .before .before .way8 .given .1) _ (want .0) (want .1) _ (keep .0) (keep .1 .0) _ (keep .1 .1 .0) (keep .1 .1 .1) _ (c .at-rest6 .ensures) _)
 
 enum-told : tie.Need-enum-told Inv-loop μ-loop
 enum-told c = search (needs, loop-laws)
 
-take-step-requires : tie.Need-take-step-requires Inv-loop μ-loop
-take-step-requires c κs = search (needs, loop-laws)
+note-requires-6 : tie.Need-note-requires-6 Inv-loop μ-loop
+note-requires-6 c κs = search (needs, loop-laws)
 
-stops-requires : tie.Need-stops-requires Inv-loop μ-loop
-stops-requires c κs = search (needs, loop-laws)
+turn-back-requires : tie.Need-turn-back-requires Inv-loop μ-loop
+turn-back-requires c κs = search (needs, loop-laws)
 
-same-length-6 : tie.Need-same-length-6 Inv-loop μ-loop
-same-length-6 c =
-    search (needs, loop-laws, ap length (c .before .before .before .before .before .before .before .before .before .before .before .before .before .before .before .loop .inv .1), c .before .before .before .before .before .take-step .ok)
+enum-known-k : tie.Need-enum-known-k Inv-loop μ-loop
+enum-known-k c = search (needs, loop-laws)
 
-returns-6 : tie.Need-returns-6 Inv-loop μ-loop
-returns-6 c =
-    let l = c .before .before .before .before .before .before .before .before .before .before .before .before .before .before .before .loop in
-    let h = c .before .before .before .before .before .before .before .before .before .before .before .before .before .before .loop-test .taken in
-    rw (← l .inv .1) (value-stops _ (l .count) _ _ (l .inv .4) (l .inv .3) h _ _ _ (c .before .before .before .before .before .take-step .ensures) _ (c .before .stops .ensures) (c .if4 .taken))
+page-of-requires-4 : tie.Need-page-of-requires-4 Inv-loop μ-loop
+page-of-requires-4 c κs = search (needs, loop-laws)
+
+entry-of-requires-2 : tie.Need-entry-of-requires-2 Inv-loop μ-loop
+entry-of-requires-2 c κs = search (needs, loop-laws)
 
 loop-less-5 : tie.Need-loop-less-5 Inv-loop μ-loop
 loop-less-5 c = search (needs, loop-laws)
 
 loop-again-5 : tie.Need-loop-again-5 Inv-loop μ-loop
 loop-again-5 c =
-    let l = c .before .before .before .before .before .before .before .before .before .before .before .before .before .before .before .before .before .before .before .before .before .before .before .loop in
-    let h = c .before .before .before .before .before .before .before .before .before .before .before .before .before .before .before .before .before .before .before .before .before .before .loop-test .taken in
-    let step = c .before .before .before .before .before .before .before .before .before .before .before .before .before .take-step .ensures in
-    let on = c .before .before .before .before .before .before .before .before .before .stops .ensures in
-    let off = c .before .before .before .before .before .before .before .before .if4 .left in
-    let same = value-same _ (l .count) _ _ (l .inv .4) (l .inv .3) h _ _ _ step _ on off in (
+    let l = c .before .before .before .before .before .before .before .before .before .before .before .before .before .before .before .before .before .before .before .before .loop in
+    let h = c .before .before .before .before .before .before .before .before .before .before .before .before .before .before .before .before .before .before .before .loop-test .taken in
+    let way = c .before .before .before .before .before .before .before .before .before .before .before .before .before .before .way-at .ensures in
+    let note = c .before .before .before .before .before .before .before .before .before .before .note6 .ensures in
+    let turn = c .before .before .before .before .before .before .turn-back .ensures in
+    let y = c .before .before .before .before .k .given .1 in
+    let back = turn .1 .1 .0 _ y in
+    let page = c .before .page-of4 .ensures .0 in
+    let entry = c .entry-of2 .ensures in (
       omega arith,
-      same ∙ l .inv .1,
-      rw same (l .inv .2),
-      value-ready _ (l .count) _ _ (l .inv .4) (l .inv .3) h _ _ _ step _ on off,
-      value-steps _ (l .count) _ _ (l .inv .4) (l .inv .3) h _ _ _ step _ on off,
+      l .inv .1,
+      l .inv .2,
+      rw (back .1) (back-ready _ (l .count) _ _ (l .inv .4) (l .inv .3) h _ way _ (note .1) (note .0) (c .before .before .before .before .before .before .before .before .before .before .before .before .enum-told .given .1) _ (turn .0) _ (turn .1 .1 .1 .1 .1 .0) (back .0) _ y _ page _ entry),
+      rw (back .1) (back-steps _ (l .count) _ _ (l .inv .4) (l .inv .3) h _ way _ (note .1) (note .0) (c .before .before .before .before .before .before .before .before .before .before .before .before .enum-told .given .1) _ (turn .0) _ (turn .1 .1 .1 .1 .1 .0) (back .0) _ y _ page _ entry),
     )
 
-same-length-7 : tie.Need-same-length-7 Inv-loop μ-loop
-same-length-7 c = search (needs, loop-laws)
+enum-told-2 : tie.Need-enum-told-2 Inv-loop μ-loop
+enum-told-2 c = search (needs, loop-laws)
 
-returns-7 : tie.Need-returns-7 Inv-loop μ-loop
-returns-7 c =
+keep-rule-requires-3 : tie.Need-keep-rule-requires-3 Inv-loop μ-loop
+keep-rule-requires-3 c κs = search (needs, loop-laws)
+
+at-rest-requires-7 : tie.Need-at-rest-requires-7 Inv-loop μ-loop
+at-rest-requires-7 c κs = search (needs, loop-laws)
+
+same-length-8 : tie.Need-same-length-8 Inv-loop μ-loop
+same-length-8 c =
+    ap length (c .before .before .before .before .before .before .before .before .before .before .before .before .before .before .before .before .before .before .before .before .before .before .before .before .before .before .before .loop .inv .1)
+
+returns-8 : tie.Need-returns-8 Inv-loop μ-loop
+returns-8 c =
+    let l = c .before .before .before .before .before .before .before .before .before .before .before .before .before .before .before .before .before .before .before .before .before .before .before .before .before .before .before .loop in
+    let h = c .before .before .before .before .before .before .before .before .before .before .before .before .before .before .before .before .before .before .before .before .before .before .before .before .before .before .loop-test .taken in
+    let way = c .before .before .before .before .before .before .before .before .before .before .before .before .before .before .before .before .before .before .before .before .before .way-at .ensures in
+    let note = c .before .before .before .before .before .before .before .before .before .before .before .before .before .before .before .before .before .note6 .ensures in
+    let turn = c .before .before .before .before .before .before .before .before .before .before .before .before .before .turn-back .ensures in
+    let keep = c .before .before .before .before .before .before .before .keep-rule3 .ensures in
+    let y = c .before .before .before .before .before .before .before .before .before .before .before .enum-told2 .given .1 in
+    let same = turn .1 .0 y in
+    rw (← l .inv .1) (nowhere-counts _ (l .count) _ _ (l .inv .4) (l .inv .3) h _ way _ (note .1) _ _ _ (keep .0) (keep .1 .0) _ (keep .1 .1 .0) (keep .1 .1 .1) _ (c .at-rest7 .ensures) _ (same .0) (same .1) (note .0) (c .before .before .before .before .before .before .before .before .before .before .before .before .before .before .before .before .before .before .before .enum-told .given .1) _ (turn .0) y)
+
+enum-told-3 : tie.Need-enum-told-3 Inv-loop μ-loop
+enum-told-3 c = search (needs, loop-laws)
+
+keep-rule-requires-4 : tie.Need-keep-rule-requires-4 Inv-loop μ-loop
+keep-rule-requires-4 c κs = search (needs, loop-laws)
+
+at-rest-requires-8 : tie.Need-at-rest-requires-8 Inv-loop μ-loop
+at-rest-requires-8 c κs = search (needs, loop-laws)
+
+same-length-9 : tie.Need-same-length-9 Inv-loop μ-loop
+same-length-9 c =
+    ap length (c .before .before .before .before .before .before .before .before .before .before .before .before .before .before .before .before .before .before .before .before .before .before .before .before .before .before .before .loop .inv .1)
+
+returns-9 : tie.Need-returns-9 Inv-loop μ-loop
+returns-9 c =
+    let l = c .before .before .before .before .before .before .before .before .before .before .before .before .before .before .before .before .before .before .before .before .before .before .before .before .before .before .before .loop in
+    let h = c .before .before .before .before .before .before .before .before .before .before .before .before .before .before .before .before .before .before .before .before .before .before .before .before .before .before .loop-test .taken in
+    let way = c .before .before .before .before .before .before .before .before .before .before .before .before .before .before .before .before .before .before .before .before .before .way-at .ensures in
+    let note = c .before .before .before .before .before .before .before .before .before .before .before .before .before .before .before .before .before .note6 .ensures in
+    let turn = c .before .before .before .before .before .before .before .before .before .before .before .before .before .turn-back .ensures in
+    let keep = c .before .before .before .before .before .before .before .keep-rule4 .ensures in
+    let y = c .before .before .before .before .before .before .before .before .before .before .before .enum-told3 .given .1 in
+    rw (← l .inv .1) (fetch-counts _ (l .count) _ _ (l .inv .4) (l .inv .3) h _ way _ (note .1) _ _ _ (keep .0) (keep .1 .0) _ (keep .1 .1 .0) (keep .1 .1 .1) _ (c .at-rest8 .ensures) _ (note .0) (c .before .before .before .before .before .before .before .before .before .before .before .before .before .before .before .before .before .before .before .enum-told .given .1) _ (turn .0) y (turn .1 .1 .1 .1 .1 .0) (turn .1 .1 .1 .0 y) (turn .1 .1 .1 .1 .0 y) (turn .1 .1 .1 .1 .1 .1))
+
+same-length-10 : tie.Need-same-length-10 Inv-loop μ-loop
+same-length-10 c =
+    ap length (c .before .loop .inv .1)
+
+returns-10 : tie.Need-returns-10 Inv-loop μ-loop
+returns-10 c =
     let l = c .before .loop in
     rw (← l .inv .1) (run-out _ (l .count) _ _ (l .inv .4) (l .inv .3) _ (c .loop-test .left) (l .inv .0))
 
@@ -349,7 +459,7 @@ take-steps-spec =
     note-requires-3
     loop-less-3
     loop-again-3
-    refuse-room-requires
+    refuse-requires
     at-rest-requires-2
     same-length-2
     returns-2
@@ -359,7 +469,7 @@ take-steps-spec =
     note-requires-4
     loop-less-4
     loop-again-4
-    refuse-room-requires-2
+    refuse-requires-2
     at-rest-requires-3
     same-length-3
     returns-3
@@ -367,16 +477,40 @@ take-steps-spec =
     send-command-requires
     same-length-4
     returns-4
-    refuse-room-requires-3
+    refuse-requires-3
     at-rest-requires-4
     same-length-5
     returns-5
-    enum-told
-    take-step-requires
-    stops-requires
+    enum-known-way-7
+    refuse-requires-4
+    at-rest-requires-5
     same-length-6
     returns-6
+    enum-known-way-8
+    note-requires-5
+    leave-unit-requires-2
+    want-from-requires
+    keep-rule-requires-2
+    at-rest-requires-6
+    same-length-7
+    returns-7
+    enum-told
+    note-requires-6
+    turn-back-requires
+    enum-known-k
+    page-of-requires-4
+    entry-of-requires-2
     loop-less-5
     loop-again-5
-    same-length-7
-    returns-7)
+    enum-told-2
+    keep-rule-requires-3
+    at-rest-requires-7
+    same-length-8
+    returns-8
+    enum-told-3
+    keep-rule-requires-4
+    at-rest-requires-8
+    same-length-9
+    returns-9
+    same-length-10
+    returns-10)

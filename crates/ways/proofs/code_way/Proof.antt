@@ -5,26 +5,23 @@ use borrow.Author.Needs.{needs}
 use Rattle.ways.proofs.code_way.Statement.{statement}
 use Rattle.ways.proofs.code_way.Tie as tie
 
-branch-way-requires : tie.Need-branch-way-requires
-branch-way-requires c κs = search needs
+store-way-requires : tie.Need-store-way-requires
+store-way-requires c κs = search needs
 
 returns : tie.Need-returns
 returns c = search (needs, code-laws)
 
-exit-way-requires : tie.Need-exit-way-requires
-exit-way-requires c κs = search needs
-
 returns-2 : tie.Need-returns-2
 returns-2 c = search (needs, code-laws)
 
-store-way-requires : tie.Need-store-way-requires
-store-way-requires c κs = search needs
+branch-way-requires : tie.Need-branch-way-requires
+branch-way-requires c κs = search needs
 
 returns-3 : tie.Need-returns-3
 returns-3 c = search (needs, code-laws)
 
-length-way-requires : tie.Need-length-way-requires
-length-way-requires c κs = search needs
+exit-way-requires : tie.Need-exit-way-requires
+exit-way-requires c κs = search needs
 
 returns-4 : tie.Need-returns-4
 returns-4 c = search (needs, code-laws)
@@ -35,21 +32,28 @@ send-way-requires c κs = search needs
 returns-5 : tie.Need-returns-5
 returns-5 c = search (needs, code-laws)
 
+list-way-requires : tie.Need-list-way-requires
+list-way-requires c κs = search needs
+
 returns-6 : tie.Need-returns-6
 returns-6 c = search (needs, code-laws)
+
+returns-7 : tie.Need-returns-7
+returns-7 c = search (needs, code-laws)
 
 pub code-way-spec : {M : Type 1} → statement M
 code-way-spec =
     tie.close
     (tie.spec
-    branch-way-requires
-    returns
-    exit-way-requires
-    returns-2
     store-way-requires
+    returns
+    returns-2
+    branch-way-requires
     returns-3
-    length-way-requires
+    exit-way-requires
     returns-4
     send-way-requires
     returns-5
-    returns-6)
+    list-way-requires
+    returns-6
+    returns-7)

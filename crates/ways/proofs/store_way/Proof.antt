@@ -1,6 +1,6 @@
 -- `ways::store_way` meets its contract.
 -- Assumes nothing.
-use Rattle.ways.proofs.WayLaws.{store-laws}
+use Rattle.ways.proofs.WayLaws.{unless-found}
 use borrow.Author.Needs.{needs}
 use Rattle.ways.proofs.store_way.Statement.{statement}
 use Rattle.ways.proofs.store_way.Tie as tie
@@ -8,40 +8,11 @@ use Rattle.ways.proofs.store_way.Tie as tie
 setting-complaint-requires : tie.Need-setting-complaint-requires
 setting-complaint-requires c κs = search needs
 
-enum-told : tie.Need-enum-told
-enum-told c = search needs
-
-enum-told-2 : tie.Need-enum-told-2
-enum-told-2 c = search needs
-
-enum-told-3 : tie.Need-enum-told-3
-enum-told-3 c = search needs
-
-enum-told-4 : tie.Need-enum-told-4
-enum-told-4 c = search needs
+unless-requires : tie.Need-unless-requires
+unless-requires c κs = search needs
 
 returns : tie.Need-returns
-returns c = search (needs, store-laws)
-
-returns-2 : tie.Need-returns-2
-returns-2 c = search (needs, store-laws)
-
-returns-3 : tie.Need-returns-3
-returns-3 c = search (needs, store-laws)
-
-returns-4 : tie.Need-returns-4
-returns-4 c = search (needs, store-laws)
+returns c = search (needs, unless-found)
 
 pub store-way-spec : {M : Type 1} → statement M
-store-way-spec =
-    tie.close
-    (tie.spec
-    setting-complaint-requires
-    enum-told
-    enum-told-2
-    enum-told-3
-    enum-told-4
-    returns
-    returns-2
-    returns-3
-    returns-4)
+store-way-spec = tie.close (tie.spec setting-complaint-requires unless-requires returns)
