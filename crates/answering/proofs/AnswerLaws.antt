@@ -29,7 +29,8 @@ use Rattle.rules.specs.Command.{executeOf, results}
 use Rattle.rules.specs.IsCard.{historyFine}
 use Rattle.rules.specs.Step.{effect, Move, onwards, jump, away, back, send, finish, refuses, does, runsOut, storing, branchBy, branch, perform, withResults, answerBy, answerFor, applied, moved, here, answered}
 use Rattle.rules.specs.Calls.{bufferAfter}
-use Rattle.rules.proofs.StaysCardReference.{handle-ref}
+use Rattle.rules.proofs.StaysCardHistory.{bounds}
+use Rattle.rules.proofs.StaysCardReference.{GoRef, handle-ref}
 use Rattle.rules.proofs.StaysCardStep.{Running}
 use Rattle.rules.proofs.StaysCardWrite.{over}
 use Rattle.tlv.proofs.Bounds.{content-in}
@@ -41,13 +42,30 @@ use Rattle.state.specs.declared.State.{State}
 use Rattle.state.specs.State.{Is}
 use Rattle.moving.specs.declared.Moved.{Moved}
 use Rattle.moving.specs.Moved.{Comes, Bounded}
+use Rattle.unit.proofs.Units.{code-tlv}
 use Rattle.storing.proofs.Lift.{lift, results-lift}
 use Rattle.storing.proofs.StoreLaws.{page-is, view-is, stored-is}
 use Rattle.sending.specs.Sent.{Sends}
-use Rattle.stepping.proofs.Silent.{silent-quiet, perform-silent}
-use Rattle.stepping.proofs.StepLaws.{bounded}
+use Rattle.answering.proofs.Silent.{silent-quiet, perform-silent}
 use Rattle.results.specs.Asked.{asked}
 use Rattle.answering.specs.Answering.{isRetry, isLacking, lacksIn}
+
+bounded : (s : List ℕ) (a : Action) → GoRef s a → Bounded s a
+bounded s Pass g = tt
+bounded s Next g = tt
+bounded s Quit g = tt
+bounded s Back g = tt
+bounded s Retry g = tt
+bounded s (Go start stop) g = bounds 2 65 (length (part s start stop)) g .1
+
+module _ (s p : List ℕ) (e : s ≡ p) (k place : ℕ) (h : Head) (g : h ≡ codeAt s k place) (tag start stop : ℕ) (x : h ≡ Tlv tag start stop) where
+  pub code-ordered : start ≤ stop
+  code-ordered = code-tlv s k place (sym g ∙ x) .1
+
+  pub code-inside : stop ≤ length p
+  code-inside = rw (← e) (code-tlv s k place (sym g ∙ x) .2)
+
+pub ruleset code-bounds = (code-ordered, code-inside)
 
 module _ (a : Action) where
   pub again-pass : a ≡ Pass → false ≡ isRetry a

@@ -1,2 +1,3 @@
+pub mod GoesOn
 pub mod PartLaws
 pub mod RunLaws

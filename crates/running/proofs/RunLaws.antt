@@ -33,7 +33,7 @@ use Rattle.rules.specs.Step.{Effect, effect, marked, placed, entered, leaving, 
 use Rattle.rules.specs.Calls.{bufferAfter, Counted, goesOn, steps}
 use Rattle.leaf.proofs.Cases.{both}
 use Rattle.rules.proofs.StaysCardHistory.{history-fit, last-wanted, bounds}
-use Rattle.rules.proofs.StaysCardStep.{Running, card-running, stepped-card, empty-page}
+use Rattle.rules.proofs.StaysCardStep.{card-running, stepped-card, empty-page}
 use Rattle.slots.specs.Slots.{slots, tidySlots}
 use Rattle.records.specs.Records.{tidyRecords}
 use Rattle.trail.specs.Trail.{historyOf, tidyTrail}
@@ -47,11 +47,10 @@ use Rattle.state.proofs.Canonical.{is-card}
 use Rattle.state.proofs.RestLaws.{rest-is}
 use Rattle.state.proofs.Changes.{new-environment, new-history, new-wanted, new-place}
 use Rattle.storing.proofs.StoreLaws.{view-is, set-done, set-full, length-done, length-full}
-use Rattle.moving.specs.declared.Moved.{Moved}
 use Rattle.moving.specs.Moved.{Comes}
 use Rattle.sending.specs.Sent.{Sends}
 use Rattle.sending.proofs.SendLaws.{send-is, command-is, issue-long}
-use Rattle.stepping.proofs.GoesOn.{stepped-on}
+use Rattle.running.proofs.GoesOn.{stepped-on}
 use Rattle.ways.specs.declared.Way.{Way}
 use Rattle.ways.specs.declared.Way.the-variants.{Enter, Place, End, Refuse, Away, Back, Store, Length, Send}
 use Rattle.ways.specs.Way.{wayAt, issued, planOf, Inside, Short}

@@ -1,11 +1,11 @@
 -- The ways through an Execute USAT Command, in the shape of what their proofs need.
 -- Assumes nothing.
 use Prim.Native.Nat.{ℕ, _-_, _≤_, _<_}
-use mathlib.Core.Bool.{Bool, true, false, cond}
+use mathlib.Core.Bool.{true, false, cond}
 use mathlib.Core.List.{List}
 use mathlib.Core.Path.{_≡_, refl, sym, _∙_}
 use native.Mathlib.Omega.{arith}
-use lib.ListN.{length, getD, take, drop, length-take}
+use lib.ListN.{length, take, drop, length-take}
 use lib.Seq.{take-append-seam}
 use lib.Dec.{ltb}
 use borrow.Author.Tests.{lt-ltb, le-ltb, ltb-false}
@@ -15,20 +15,16 @@ use Rattle.leaf.proofs.Cases.{both}
 use Rattle.rules.specs.Store.{longest}
 use Rattle.rules.specs.declared.Judged.the-variants.{Accepted}
 use Rattle.rules.specs.declared.Outcome.the-variants.{Command}
-use Rattle.rules.specs.declared.Complaint.{Complaint}
 use Rattle.rules.specs.declared.Refusal.{Refusal}
-use Rattle.rules.specs.declared.Refusal.the-variants.{Memory, Disallowed}
+use Rattle.rules.specs.declared.Refusal.the-variants.{Memory}
 use Rattle.rules.specs.Bytes.{part}
 use Rattle.rules.specs.Loader.{judge}
-use Rattle.rules.specs.Card.{free, Card, withRun, inHand}
-use Rattle.rules.specs.IsCard.{complaintFree}
-use Rattle.rules.specs.Command.{executeOf, typeAt, executeComplaint, allowedBy, allowed, command}
-use Rattle.rules.specs.Step.{refuses, does, applied, moved, send, sending, execute}
+use Rattle.rules.specs.Card.{Card, withRun, inHand}
+use Rattle.rules.specs.Command.{executeOf, command}
+use Rattle.rules.specs.Step.{refuses, does, applied, moved, send, sending}
 use Rattle.rules.specs.Calls.{over, bufferAfter}
-use Rattle.slots.specs.Slots.{slots}
 use Rattle.variable.specs.View.{view}
 use Rattle.value.specs.Into.{into}
-use Rattle.execute.proofs.Bare.{bare-execute}
 use Rattle.command.proofs.Bare.{bare-command}
 use Rattle.word.specs.Word.{laidMarked}
 use Rattle.word.proofs.Parts.{hand-laid, laid-hand}
@@ -37,8 +33,7 @@ use Rattle.state.specs.State.{Is, pageOf}
 use Rattle.moving.specs.declared.Moved.{Moved}
 use Rattle.moving.specs.Moved.{Comes}
 use Rattle.setting.proofs.ComplaintLaws.{part-start}
-use Rattle.storing.specs.Why.{whyOf}
-use Rattle.storing.proofs.StoreLaws.{page-is, view-is, unless-free, unless-wrong}
+use Rattle.storing.proofs.StoreLaws.{page-is, view-is}
 use Rattle.sending.specs.Sent.{Sends}
 
 -- the text of a command that fits is the command
@@ -96,37 +91,6 @@ module _ (m : State) (c : Card) (is : Is m c) where
       issue-long h f =
           let k : ltb 255 (length (command c (executeOf (c .run .page) tag start stop))) ≡ true = rw (← command-is, ← e) (lt-ltb _ _ h) in
           rw k (refused-out ok before o Memory f)
-
-      pub issue-sent : n ≤ 255 → (b bytes w after : List ℕ) → bytes ≡ into b (command (view s (m .environment) (m .temporary) (m .permanent)) (executeOf s tag start stop)) → w ≡ part bytes 0 n
-          → ((d : Card) → Is m d → Sends o before after (moved d (send w))) → Sends o before after (applied c (cond (ltb 255 (length (command c (executeOf (c .run .page) tag start stop)))) (refuses Memory) (does c (send (command c (executeOf (c .run .page) tag start stop))))))
-      unfolding applied
-      issue-sent h b bytes w after g i f =
-          let k : ltb 255 (length (command c (executeOf (c .run .page) tag start stop))) ≡ false = rw (← command-is, ← e) (le-ltb _ _ h) in
-          let v : w ≡ command c (executeOf (c .run .page) tag start stop) = text-is s (m .environment) (m .temporary) (m .permanent) tag start stop n e h b bytes w g i ∙ command-is in
-          rw (k, ← v) (f c is)
-
-    module _ (a : Bool) (e : a ≡ allowedBy (getD s (typeAt (executeOf s tag start stop)) 0) (getD (slots (m .environment)) 2 free)) where
-      allowed-is : allowed c (executeOf (c .run .page) tag start stop) ≡ a
-      unfolding allowed
-      allowed-is = sym (rw (page-is m c is s p, is .environment) at e)
-
-      pub type-listed : a ≡ true → (after : List ℕ) → ((d : Card) → Is m d → judge (d .run .page) ≡ Accepted → Sends o before after (applied d (cond (ltb 255 (length (command d (executeOf (d .run .page) tag start stop)))) (refuses Memory) (does d (send (command d (executeOf (d .run .page) tag start stop))))))) → Sends o before after (applied c (cond (allowed c (executeOf (c .run .page) tag start stop)) (cond (ltb 255 (length (command c (executeOf (c .run .page) tag start stop)))) (refuses Memory) (does c (send (command c (executeOf (c .run .page) tag start stop))))) (refuses Disallowed)))
-      type-listed g after f = rw (allowed-is, g) (f c is ok)
-
-      pub type-unlisted : a ≡ false → ((d : Card) → Is m d → judge (d .run .page) ≡ Accepted → Comes o (applied d (refuses Disallowed))) → Sends o before before (applied c (cond (allowed c (executeOf (c .run .page) tag start stop)) (cond (ltb 255 (length (command c (executeOf (c .run .page) tag start stop)))) (refuses Memory) (does c (send (command c (executeOf (c .run .page) tag start stop))))) (refuses Disallowed)))
-      type-unlisted g f = rw (allowed-is, g) (refused-out ok before o Disallowed f)
-
-    module _ (w : Complaint) (b : Bool) (x : b ≡ complaintFree w) (e : w ≡ executeComplaint (view s (m .environment) (m .temporary) (m .permanent)) (executeOf s tag start stop)) where
-      wrong-is : executeComplaint c (executeOf (c .run .page) tag start stop) ≡ w
-      wrong-is = sym (bare-execute c (executeOf (c .run .page) tag start stop)) ∙ sym (rw (← view-is m c is s p, page-is m c is s p) at e)
-
-      pub execute-right : b ≡ true → (after : List ℕ) → ((d : Card) → Is m d → judge (d .run .page) ≡ Accepted → Sends o before after (applied d (cond (allowed d (executeOf (d .run .page) tag start stop)) (cond (ltb 255 (length (command d (executeOf (d .run .page) tag start stop)))) (refuses Memory) (does d (send (command d (executeOf (d .run .page) tag start stop))))) (refuses Disallowed)))) → Sends o before after (applied c (execute c (executeOf (c .run .page) tag start stop)))
-      unfolding execute
-      execute-right g after f = rw (wrong-is, unless-free w (cond (allowed c (executeOf (c .run .page) tag start stop)) (cond (ltb 255 (length (command c (executeOf (c .run .page) tag start stop)))) (refuses Memory) (does c (send (command c (executeOf (c .run .page) tag start stop))))) (refuses Disallowed)) (sym x ∙ g)) (f c is ok)
-
-      pub execute-wrong : b ≡ false → (v : Refusal) → v ≡ whyOf w → ((d : Card) → Is m d → judge (d .run .page) ≡ Accepted → Comes o (applied d (refuses v))) → Sends o before before (applied c (execute c (executeOf (c .run .page) tag start stop)))
-      unfolding execute
-      execute-wrong g v y f = rw (wrong-is, unless-wrong w (cond (allowed c (executeOf (c .run .page) tag start stop)) (cond (ltb 255 (length (command c (executeOf (c .run .page) tag start stop)))) (refuses Memory) (does c (send (command c (executeOf (c .run .page) tag start stop))))) (refuses Disallowed)) (sym x ∙ g), ← y) (refused-out ok before o v f)
 
 pub command-counts : (b bytes w : List ℕ) → bytes ≡ into b w → length b ≡ 256 → 256 ≡ length bytes
 unfolding into

@@ -1,30 +1,23 @@
 -- The ways through the byte codes that store, in the shape of what their proofs need.
 -- Assumes nothing.
 use Prim.Native.Nat.{ℕ, _+_, _≤_, _<_}
-use mathlib.Core.Bool.{Bool, true, false, cond, true≢false, false≢true}
+use mathlib.Core.Bool.{Bool, true, false, cond}
 use mathlib.Core.List.{List, [], _∷_}
-use mathlib.Core.Path.{_≡_, refl, sym, _∙_}
+use mathlib.Core.Path.{_≡_, refl, _∙_}
 use native.Mathlib.Omega.{arith}
-use lib.ListN.{length, getD, take}
-use Rattle.rules.specs.declared.Head.{Head}
-use Rattle.rules.specs.declared.Head.the-variants.{Tlv, Past}
+use lib.ListN.{length, take}
 use Rattle.rules.specs.declared.Judged.the-variants.{Accepted}
 use Rattle.rules.specs.declared.Complaint.{Complaint}
-use Rattle.rules.specs.declared.Complaint.the-variants.{Nothing, Undefined, Secured, Misused}
-use Rattle.rules.specs.declared.Refusal.{Refusal}
-use Rattle.rules.specs.declared.Refusal.the-variants.{Syntax, Variable, Memory, Security}
+use Rattle.rules.specs.declared.Refusal.the-variants.{Memory}
 use Rattle.rules.specs.Bytes.{part}
-use Rattle.rules.specs.Tlv.{headAt}
 use Rattle.rules.specs.Tlvs.{Tlvs, done, past, tlv, tlvs}
 use Rattle.rules.specs.Pieces.{named}
 use Rattle.rules.specs.Loader.{judge}
 use Rattle.rules.specs.Page.{service}
 use Rattle.rules.specs.Card.{Card}
-use Rattle.rules.specs.IsCard.{complaintFree}
 use Rattle.rules.specs.Store.{area, writing, writingIn, worse, Written, wrote, noRoom, write}
 use Rattle.rules.specs.Value.{piecesOf, complaint, joined, shortest}
-use Rattle.rules.specs.Step.{Plan, refuses, applied, moved, Move, onwards, unless, storing, numberBefore, settingComplaint, setAll, setVariable, listAt, getLength}
-use Rattle.rules.proofs.IsolationRows.{tlv-in}
+use Rattle.rules.specs.Step.{refuses, applied, moved, Move, onwards, storing, numberBefore, settingComplaint, setAll}
 use Rattle.rules.proofs.StaysCardWrite.{over}
 use Rattle.slots.specs.Slots.{slots, tidySlots}
 use Rattle.records.specs.Records.{records, tidyRecords}
@@ -35,58 +28,7 @@ use Rattle.state.specs.declared.State.{State}
 use Rattle.state.specs.State.{Is, pageOf}
 use Rattle.moving.specs.declared.Moved.{Moved}
 use Rattle.moving.specs.Moved.{Comes}
-use Rattle.storing.specs.Why.{whyOf, listIn}
 use Rattle.storing.proofs.Lift.{lift, write-lift, setAll-lift}
-
-module _ (w : Complaint) where
-  pub free-nothing : w ≡ Nothing → true ≡ complaintFree w
-  unfolding complaintFree
-  free-nothing x = simp x
-
-  pub free-undefined : w ≡ Undefined → false ≡ complaintFree w
-  unfolding complaintFree
-  free-undefined x = simp x
-
-  pub free-secured : w ≡ Secured → false ≡ complaintFree w
-  unfolding complaintFree
-  free-secured x = simp x
-
-  pub free-misused : w ≡ Misused → false ≡ complaintFree w
-  unfolding complaintFree
-  free-misused x = simp x
-
-  pub why-nothing : w ≡ Nothing → Syntax ≡ whyOf w
-  unfolding whyOf
-  why-nothing x = simp x
-
-  pub why-undefined : w ≡ Undefined → Variable ≡ whyOf w
-  unfolding whyOf
-  why-undefined x = simp x
-
-  pub why-secured : w ≡ Secured → Security ≡ whyOf w
-  unfolding whyOf
-  why-secured x = simp x
-
-  pub why-misused : w ≡ Misused → Syntax ≡ whyOf w
-  unfolding whyOf
-  why-misused x = simp x
-
-pub ruleset why-laws = (free-nothing, free-undefined, free-secured, free-misused, why-nothing, why-undefined, why-secured, why-misused)
-
--- 16, 19 and 17 go before the rest, which is reached where there is none of them
-pub unless-free : (w : Complaint) (p : Plan) → complaintFree w ≡ true → unless w p ≡ p
-unfolding unless complaintFree
-unless-free Nothing p e = refl
-unless-free Undefined p e = absurd (false≢true e)
-unless-free Secured p e = absurd (false≢true e)
-unless-free Misused p e = absurd (false≢true e)
-
-pub unless-wrong : (w : Complaint) (p : Plan) → complaintFree w ≡ false → unless w p ≡ refuses (whyOf w)
-unfolding unless complaintFree whyOf
-unless-wrong Nothing p e = absurd (true≢false e)
-unless-wrong Undefined p e = refl
-unless-wrong Secured p e = refl
-unless-wrong Misused p e = refl
 
 pub bare-setting : (c : Card) (known : List ℕ) (row : Tlvs) → settingComplaint (bare c) known row ≡ settingComplaint c known row
 unfolding settingComplaint bare seen numberBefore writing
@@ -130,12 +72,12 @@ module _ (m : State) (c : Card) (is : Is m c) (s : List ℕ) (p : s ≡ take (m 
         }
 
     -- a write that went well is done on the card, and one that did not leaves it to be refused
-    pub stores : (move : Move) (w v : Written) (b : Bool) → w ≡ lift c v → v ≡ cond b (wrote (view s (m .environment) t q)) noRoom → b ≡ true → (o : Moved)
+    stores : (move : Move) (w v : Written) (b : Bool) → w ≡ lift c v → v ≡ cond b (wrote (view s (m .environment) t q)) noRoom → b ≡ true → (o : Moved)
         → ((d : Card) → Is (record { page = m .page; len = m .len; environment = m .environment; temporary = t; permanent = q; trail = m .trail; guard = m .guard; hand = m .hand; wanted = m .wanted; unit = m .unit; place = m .place }) d → Comes o (moved d move)) → Comes o (applied c (storing move w))
     unfolding lift view seen storing applied
     stores move w v b e f g o h = rw (e, f, g) (h (over c (records q) (slots t)) stored-is)
 
-  pub store-fails : (t q : List ℕ) (move : Move) (w v : Written) (b : Bool) → w ≡ lift c v → v ≡ cond b (wrote (view s (m .environment) t q)) noRoom → b ≡ false → judge (c .run .page) ≡ Accepted → (o : Moved)
+  store-fails : (t q : List ℕ) (move : Move) (w v : Written) (b : Bool) → w ≡ lift c v → v ≡ cond b (wrote (view s (m .environment) t q)) noRoom → b ≡ false → judge (c .run .page) ≡ Accepted → (o : Moved)
       → ((d : Card) → Is m d → judge (d .run .page) ≡ Accepted → Comes o (applied d (refuses Memory))) → Comes o (applied c (storing move w))
   unfolding lift storing
   store-fails t q move w v b e f g ok o h = rw (e, f, g) (h c is ok)
@@ -163,55 +105,6 @@ module _ (m : State) (c : Card) (is : Is m c) (s : List ℕ) (p : s ≡ take (m 
 
       pub length-full : b ≡ false → ((d : Card) → Is m d → judge (d .run .page) ≡ Accepted → Comes o (applied d (refuses Memory))) → Comes o (applied c (storing (onwards stop) (write c n 3 (shortest (length (joined c (named (part (c .run .page) from to))))))))
       length-full g h = store-fails t q (onwards stop) _ _ b (length-lift n from to) e g ok o h
-
-  module _ (ok : judge (c .run .page) ≡ Accepted) (w : Complaint) (b : Bool) (f : b ≡ complaintFree w) (o : Moved) where
-    module _ (start stop : ℕ) (e : w ≡ settingComplaint (view s (m .environment) (m .temporary) (m .permanent)) [] (tlvs 1 s start stop)) where
-      wrong-is : settingComplaint c [] (tlvs 1 (c .run .page) start stop) ≡ w
-      wrong-is = sym (bare-setting c [] (tlvs 1 (c .run .page) start stop)) ∙ sym (rw (← view-is, page-is) at e)
-
-      pub set-right : b ≡ true → ((d : Card) → Is m d → judge (d .run .page) ≡ Accepted → Comes o (applied d (storing (onwards stop) (setAll (tlvs 1 (d .run .page) start stop) d)))) → Comes o (applied c (setVariable c start stop))
-      unfolding setVariable
-      set-right g h = rw (wrong-is, unless-free w (storing (onwards stop) (setAll (tlvs 1 (c .run .page) start stop) c)) (sym f ∙ g)) (h c is ok)
-
-      pub set-wrong : b ≡ false → (v : Refusal) → v ≡ whyOf w → ((d : Card) → Is m d → judge (d .run .page) ≡ Accepted → Comes o (applied d (refuses v))) → Comes o (applied c (setVariable c start stop))
-      unfolding setVariable
-      set-wrong g v x h = rw (wrong-is, unless-wrong w (storing (onwards stop) (setAll (tlvs 1 (c .run .page) start stop) c)) (sym f ∙ g), ← x) (h c is ok)
-
-    module _ (start stop n from to : ℕ) (k : n ≡ getD s start 0) (l : named (part s from to) ≡ listIn s (headAt s (start + 1) stop))
-        (e : w ≡ worse (writingIn (service s) (area n)) (complaint (view s (m .environment) (m .temporary) (m .permanent)) [] (named (part s from to)))) where
-      list-is : (h : Head) → listAt c h ≡ listIn (c .run .page) h
-      unfolding listAt listIn
-      list-is (Tlv tag start stop) = refl
-      list-is Past = refl
-
-      length-is : getLength c start stop ≡ unless w (storing (onwards stop) (write c n 3 (shortest (length (joined c (named (part (c .run .page) from to)))))))
-      unfolding getLength writing
-      length-is =
-          let x : listAt c (headAt (c .run .page) (start + 1) stop) ≡ named (part (c .run .page) from to) = list-is (headAt (c .run .page) (start + 1) stop) ∙ sym (rw page-is at l) in
-          let y : getD (c .run .page) start 0 ≡ n = sym (rw page-is at k) in
-          let z : w ≡ worse (writingIn (service (c .run .page)) (area n)) (complaint c [] (named (part (c .run .page) from to))) = rw (← view-is, page-is, bare-complaint c [] (named (part (c .run .page) from to))) at e in
-          rw (x, y, z) refl
-
-      pub length-right : b ≡ true → ((d : Card) → Is m d → judge (d .run .page) ≡ Accepted → Comes o (applied d (storing (onwards stop) (write d n 3 (shortest (length (joined d (named (part (d .run .page) from to))))))))) → Comes o (applied c (getLength c start stop))
-      length-right g h = rw (length-is, unless-free w (storing (onwards stop) (write c n 3 (shortest (length (joined c (named (part (c .run .page) from to))))))) (sym f ∙ g)) (h c is ok)
-
-      pub length-wrong : b ≡ false → (v : Refusal) → v ≡ whyOf w → ((d : Card) → Is m d → judge (d .run .page) ≡ Accepted → Comes o (applied d (refuses v))) → Comes o (applied c (getLength c start stop))
-      length-wrong g v x h = rw (length-is, unless-wrong w (storing (onwards stop) (write c n 3 (shortest (length (joined c (named (part (c .run .page) from to))))))) (sym f ∙ g), ← x) (h c is ok)
-
-module _ (s : List ℕ) (at stop : ℕ) (h : Head) (e : h ≡ headAt s at stop) where
-  pub list-none : h ≡ Past → named (part s 0 0) ≡ listIn s (headAt s at stop)
-  unfolding listIn named part
-  list-none x = sym (simp (sym e ∙ x))
-
-  module _ (tag from to : ℕ) (x : h ≡ Tlv tag from to) where
-    pub list-held : named (part s from to) ≡ listIn s (headAt s at stop)
-    unfolding listIn
-    list-held = sym (simp (sym e ∙ x))
-
-    pub list-inside : stop ≤ length s → to ≤ length s
-    list-inside l = let i = tlv-in s at stop tag from to (sym e ∙ x) in omega arith
-
-pub ruleset list-laws = (list-none, list-held, list-inside)
 
 -- the bounds of the page as it is lent
 module _ (s p : List ℕ) (e : s ≡ p) where

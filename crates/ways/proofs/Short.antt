@@ -44,7 +44,7 @@ use Rattle.branching.specs.declared.Branch.the-variants.{Refused as Rejects, On
 use Rattle.branching.specs.Branch.{refusedBy, branchFor, branchSlot, branchChoice}
 use Rattle.branching.proofs.Taken.{bare-choose}
 use Rattle.ways.specs.declared.Way.{Way}
-use Rattle.ways.specs.declared.Way.the-variants.{Enter, Place, End, Refuse, Away, Back, Store, Length, Send}
+use Rattle.ways.specs.declared.Way.the-variants.{End, Refuse, Store, Length, Send}
 use Rattle.ways.specs.Way.{wayTo, branchWay, actionWay, exitWay, unlessWay, lengthWay, listWay, sendWay, wayBy, codeWay, wayAt, Short}
 
 -- the reference that a branch follows

@@ -1,7 +1,6 @@
 -- Where a step leads, and the plan of the rules that this stands for.
 use Prim.Native.Nat.{ℕ, _+_, _≤_, _%_}
 use mathlib.Core.Bool.{true, false, cond}
-use mathlib.Core.Path.{_≡_}
 use mathlib.Core.List.{List, []}
 use lib.ListN.{length, getD}
 use lib.Dec.{ltb, eqb}

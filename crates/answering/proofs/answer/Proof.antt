@@ -1,7 +1,6 @@
 -- `answering::answer` meets its contract.
 -- Assumes nothing.
-use Rattle.answering.proofs.AnswerLaws.{answer-out, answer-lacks, answer-goes}
-use Rattle.stepping.proofs.StepLaws.{code-bounds}
+use Rattle.answering.proofs.AnswerLaws.{answer-out, answer-lacks, answer-goes, code-bounds}
 use borrow.Author.Needs.{needs}
 use Rattle.answering.proofs.answer.Statement.{statement}
 use Rattle.answering.proofs.answer.Tie as tie

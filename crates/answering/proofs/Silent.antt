@@ -1,24 +1,17 @@
 -- A byte code that sends no command leaves the lent buffer as it was.
 -- Assumes nothing.
-use Prim.Native.Nat.{ℕ, _%_}
+use Prim.Native.Nat.{ℕ}
 use mathlib.Core.List.{List}
 use mathlib.Core.Path.{_≡_, refl}
 use lib.Dec.{eqb}
 use Rattle.rules.specs.declared.Action.{Action}
 use Rattle.rules.specs.declared.Action.the-variants.{Pass, Next, Quit, Back, Retry, Go}
-use Rattle.rules.specs.declared.Choice.{Choice}
-use Rattle.rules.specs.declared.Choice.the-variants.{Follow, Stay, Unknown}
-use Rattle.rules.specs.declared.Complaint.{Complaint}
-use Rattle.rules.specs.declared.Complaint.the-variants.{Nothing, Undefined, Secured, Misused}
 use Rattle.rules.specs.declared.Target.{Target}
 use Rattle.rules.specs.declared.Target.the-variants.{Unit as UnitAt, Lacking, Other}
 use Rattle.rules.specs.Bytes.{part}
-use Rattle.rules.specs.Shape.{attribute}
-use Rattle.rules.specs.Tlvs.{Tlvs}
-use Rattle.rules.specs.Card.{Slot, free, held, Card}
-use Rattle.rules.specs.Store.{Written, wrote, noRoom}
+use Rattle.rules.specs.Card.{Card}
 use Rattle.rules.specs.Reference.{target}
-use Rattle.rules.specs.Step.{Effect, Move, onwards, jump, away, back, send, finish, Plan, refuses, does, runsOut, unless, storing, branchBy, branch, perform, setVariable, getLength, choose, chosen, branchOnSlot, branchOnValue, exit, wanting, backTo, goBack, moved, applied}
+use Rattle.rules.specs.Step.{Effect, Move, onwards, jump, away, back, send, finish, Plan, refuses, does, runsOut, branchBy, branch, perform, wanting, backTo, goBack, moved, applied}
 use Rattle.rules.specs.Calls.{bufferAfter}
 use Rattle.leaf.proofs.Cases.{both}
 
@@ -63,18 +56,6 @@ silent-quiet c (refuses r) s b = refl
 silent-quiet c (does d m) s b = moved-quiet d m s b
 silent-quiet c runsOut s b = refl
 
-unless-silent : (w : Complaint) (p : Plan) → SilentPlan p → SilentPlan (unless w p)
-unfolding unless
-unless-silent Nothing p s = s
-unless-silent Undefined p s = tt
-unless-silent Secured p s = tt
-unless-silent Misused p s = tt
-
-storing-silent : (m : Move) (w : Written) → Silent m → SilentPlan (storing m w)
-unfolding storing
-storing-silent m (wrote c) s = s
-storing-silent m noRoom s = tt
-
 branchBy-silent : (c : Card) (r : List ℕ) (t : Target) → SilentPlan (branchBy c r t)
 unfolding branchBy
 branchBy-silent c r (UnitAt k) = tt
@@ -93,31 +74,3 @@ perform-silent c next Quit = tt
 perform-silent c next Back = tt
 perform-silent c next Retry = tt
 perform-silent c next (Go start stop) = branch-silent c (part (c .run .page) start stop)
-
-chosen-silent : (c : Card) (next : ℕ) (x : Choice) → SilentPlan (chosen c next x)
-unfolding chosen
-chosen-silent c next (Follow start stop) = branch-silent c (part (c .run .page) start stop)
-chosen-silent c next Stay = tt
-chosen-silent c next Unknown = tt
-
-slot-silent : (c : Card) (next : ℕ) (row : Tlvs) (x : Slot) → SilentPlan (branchOnSlot c next row x)
-unfolding branchOnSlot
-slot-silent c next row free = tt
-slot-silent c next row (held type bytes) = chosen-silent c next (choose c bytes row)
-
-module _ (c : Card) (tag start stop : ℕ) where
-  pub set-silent : SilentPlan (setVariable c start stop)
-  unfolding setVariable
-  set-silent = unless-silent _ _ (storing-silent (onwards stop) _ tt)
-
-  pub length-silent : SilentPlan (getLength c start stop)
-  unfolding getLength
-  length-silent = unless-silent _ _ (storing-silent (onwards stop) _ tt)
-
-  pub value-silent : SilentPlan (branchOnValue c start stop)
-  unfolding branchOnValue
-  value-silent = unless-silent _ _ (slot-silent c stop _ _)
-
-  pub exit-silent : SilentPlan (exit c tag start stop)
-  unfolding exit
-  exit-silent = both (eqb (attribute (c .run .page) tag start stop % 2) 1) (λ t. rw t tt) (λ t. rw t (perform-silent c stop _))
