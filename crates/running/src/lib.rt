@@ -11,6 +11,7 @@ ghost use mathlib.Core.List.{_∷_, []};
 ghost use Prim.Native.Nat.{ℕ, _≤_, _<_};
 ghost use lib.ListN.{length, take, set};
 ghost use Rattle.rules.specs.declared.Judged.the-variants.{Accepted};
+ghost use Rattle.rules.specs.declared.Outcome.the-variants.{Refused};
 ghost use Rattle.rules.specs.Numbers.{code};
 ghost use Rattle.rules.specs.Bytes.{part};
 ghost use Rattle.rules.specs.Loader.{judge};
@@ -62,40 +63,41 @@ fn note_end(environment: &mut [u8; 16640], done: bool)
     }
 }
 
-// The keep rule: what the page keeps for the next one, and the password that protects it.
-fn keep_rule(temporary: &mut [u8; 16640], guard: &mut [u8; 18], page: &[u8; 4096], len: usize)
-    ensures { λ _. ⌜ slots (now (temporary .exit)) ≡ keptBy (take len (now (page .entry))) (keepList (take len (now (page .entry)))) (slots (now (temporary .entry))) ⌝ }
-    ensures { λ _. ⌜ (tidySlots (now (temporary .entry)) ≡ true → tidySlots (now (temporary .exit)) ≡ true) ⌝ }
-    ensures { λ _. ⌜ (length (bytesOf (take len (now (page .entry))) (password (take len (now (page .entry))))) ≤ 16 → guardOf (now (guard .exit)) ≡ guardBy (take len (now (page .entry))) (password (take len (now (page .entry))))) ⌝ }
-    ensures { λ _. ⌜ (tidyGuard (now (guard .entry)) ≡ true → tidyGuard (now (guard .exit)) ≡ true) ⌝ }
-{
-    keep::keep_temporary(temporary, state::page_of(page, len));
-    keep::keep_guard(guard, state::page_of(page, len));
-}
-
-// A state at rest, by the parts that an ending leaves.
-fn at_rest<'a>(
+// The page ends: the keep rule, and a state at rest by the parts that are left.
+fn end_page<'a>(
     environment: &'a [u8; 16640],
-    temporary: &'a [u8; 16640],
+    temporary: &mut [u8; 16640],
     permanent: &'a [u8; 17920],
     trail: &'a [u8; 1058],
-    guard: &'a [u8; 18],
+    guard: &mut [u8; 18],
     wanted: &'a [u8; 66],
-) -> State
-    ensures { λ r. ⌜ r ≡ laid (blank 4096) 0 (now (environment .entry)) (now (temporary .entry)) (now (permanent .entry)) (now (trail .entry)) (now (guard .entry)) (blank 257) (now (wanted .entry)) 0 0 ⌝ }
+    page: &'a [u8],
+    outcome: Outcome,
+    count: usize,
+) -> Course
+    ensures { λ r. ⌜ r ≡ record { state = laid (blank 4096) 0 (now (environment .entry)) (now (temporary .exit)) (now (permanent .entry)) (now (trail .entry)) (now (guard .exit)) (blank 257) (now (wanted .entry)) 0 0; ran = record { outcome = outcome; count = count } } ⌝ }
+    ensures { λ _. ⌜ slots (now (temporary .exit)) ≡ keptBy (now (page .entry)) (keepList (now (page .entry))) (slots (now (temporary .entry))) ⌝ }
+    ensures { λ _. ⌜ (tidySlots (now (temporary .entry)) ≡ true → tidySlots (now (temporary .exit)) ≡ true) ⌝ }
+    ensures { λ _. ⌜ (length (bytesOf (now (page .entry)) (password (now (page .entry)))) ≤ 16 → guardOf (now (guard .exit)) ≡ guardBy (now (page .entry)) (password (now (page .entry)))) ⌝ }
+    ensures { λ _. ⌜ (tidyGuard (now (guard .entry)) ≡ true → tidyGuard (now (guard .exit)) ≡ true) ⌝ }
 {
-    State {
-        page: [0; 4096],
-        len: 0,
-        environment: *environment,
-        temporary: *temporary,
-        permanent: *permanent,
-        trail: *trail,
-        guard: *guard,
-        hand: [0; 257],
-        wanted: *wanted,
-        unit: 0,
-        place: 0,
+    keep::keep_temporary(temporary, page);
+    keep::keep_guard(guard, page);
+    Course {
+        state: State {
+            page: [0; 4096],
+            len: 0,
+            environment: *environment,
+            temporary: *temporary,
+            permanent: *permanent,
+            trail: *trail,
+            guard: *guard,
+            hand: [0; 257],
+            wanted: *wanted,
+            unit: 0,
+            place: 0,
+        },
+        ran: Ran { outcome, count },
     }
 }
 
@@ -137,24 +139,38 @@ fn send_command<'a>(
     n
 }
 
-// A refusal: '05' says which, and the keep rule applies.
-fn refuse(
+// The page ends by a refusal: '05' says which.
+fn refuse_page<'a>(
     environment: &mut [u8; 16640],
     temporary: &mut [u8; 16640],
+    permanent: &'a [u8; 17920],
+    trail: &'a [u8; 1058],
     guard: &mut [u8; 18],
-    page: &[u8; 4096],
-    len: usize,
+    wanted: &'a [u8; 66],
+    page: &'a [u8],
     why: Refusal,
-)
+    count: usize,
+) -> Course
+    ensures { λ r. ⌜ r ≡ record { state = laid (blank 4096) 0 (now (environment .exit)) (now (temporary .exit)) (now (permanent .entry)) (now (trail .entry)) (now (guard .exit)) (blank 257) (now (wanted .entry)) 0 0; ran = record { outcome = Refused why; count = count } } ⌝ }
+    ensures { λ _. ⌜ slots (now (temporary .exit)) ≡ keptBy (now (page .entry)) (keepList (now (page .entry))) (slots (now (temporary .entry))) ⌝ }
+    ensures { λ _. ⌜ (tidySlots (now (temporary .entry)) ≡ true → tidySlots (now (temporary .exit)) ≡ true) ⌝ }
+    ensures { λ _. ⌜ (length (bytesOf (now (page .entry)) (password (now (page .entry)))) ≤ 16 → guardOf (now (guard .exit)) ≡ guardBy (now (page .entry)) (password (now (page .entry)))) ⌝ }
+    ensures { λ _. ⌜ (tidyGuard (now (guard .entry)) ≡ true → tidyGuard (now (guard .exit)) ≡ true) ⌝ }
     ensures { λ _. ⌜ slots (now (environment .exit)) ≡ set (slots (now (environment .entry))) 5 (held 3 (code why)) ⌝ }
     ensures { λ _. ⌜ (tidySlots (now (environment .entry)) ≡ true → tidySlots (now (environment .exit)) ≡ true) ⌝ }
-    ensures { λ _. ⌜ slots (now (temporary .exit)) ≡ keptBy (take len (now (page .entry))) (keepList (take len (now (page .entry)))) (slots (now (temporary .entry))) ⌝ }
-    ensures { λ _. ⌜ (tidySlots (now (temporary .entry)) ≡ true → tidySlots (now (temporary .exit)) ≡ true) ⌝ }
-    ensures { λ _. ⌜ (length (bytesOf (take len (now (page .entry))) (password (take len (now (page .entry))))) ≤ 16 → guardOf (now (guard .exit)) ≡ guardBy (take len (now (page .entry))) (password (take len (now (page .entry))))) ⌝ }
-    ensures { λ _. ⌜ (tidyGuard (now (guard .entry)) ≡ true → tidyGuard (now (guard .exit)) ≡ true) ⌝ }
 {
     moving::note_refusal(environment, why);
-    keep_rule(temporary, guard, page, len);
+    end_page(
+        environment,
+        temporary,
+        permanent,
+        trail,
+        guard,
+        wanted,
+        page,
+        Outcome::Refused(why),
+        count,
+    )
 }
 
 // The reference wanted, from a place of the page up to another.
@@ -250,21 +266,17 @@ pub fn take_steps(state: State, most: usize, out: &mut [u8]) -> Course
             }
             Way::End(done) => {
                 note_end(&mut environment, done);
-                keep_rule(&mut temporary, &mut guard, &page, len);
-                return Course {
-                    state: at_rest(
-                        &environment,
-                        &temporary,
-                        &permanent,
-                        &trail,
-                        &guard,
-                        &wanted,
-                    ),
-                    ran: Ran {
-                        outcome: Outcome::Ended,
-                        count,
-                    },
-                };
+                return end_page(
+                    &environment,
+                    &mut temporary,
+                    &permanent,
+                    &trail,
+                    &mut guard,
+                    &wanted,
+                    state::page_of(&page, len),
+                    Outcome::Ended,
+                    count,
+                );
             }
             Way::Store(start, stop) => {
                 if whole::set_all(
@@ -279,28 +291,17 @@ pub fn take_steps(state: State, most: usize, out: &mut [u8]) -> Course
                     place = stop;
                     continue;
                 }
-                refuse(
+                return refuse_page(
                     &mut environment,
                     &mut temporary,
+                    &permanent,
+                    &trail,
                     &mut guard,
-                    &page,
-                    len,
+                    &wanted,
+                    state::page_of(&page, len),
                     Refusal::Memory,
+                    count,
                 );
-                return Course {
-                    state: at_rest(
-                        &environment,
-                        &temporary,
-                        &permanent,
-                        &trail,
-                        &guard,
-                        &wanted,
-                    ),
-                    ran: Ran {
-                        outcome: Outcome::Refused(Refusal::Memory),
-                        count,
-                    },
-                };
             }
             Way::Length(n, from, to, stop) => {
                 if whole::set_length(
@@ -316,28 +317,17 @@ pub fn take_steps(state: State, most: usize, out: &mut [u8]) -> Course
                     place = stop;
                     continue;
                 }
-                refuse(
+                return refuse_page(
                     &mut environment,
                     &mut temporary,
+                    &permanent,
+                    &trail,
                     &mut guard,
-                    &page,
-                    len,
+                    &wanted,
+                    state::page_of(&page, len),
                     Refusal::Memory,
+                    count,
                 );
-                return Course {
-                    state: at_rest(
-                        &environment,
-                        &temporary,
-                        &permanent,
-                        &trail,
-                        &guard,
-                        &wanted,
-                    ),
-                    ran: Ran {
-                        outcome: Outcome::Refused(Refusal::Memory),
-                        count,
-                    },
-                };
             }
             Way::Send(tag, start, stop) => {
                 let n = send_command(
@@ -373,72 +363,46 @@ pub fn take_steps(state: State, most: usize, out: &mut [u8]) -> Course
                         },
                     };
                 }
-                refuse(
+                return refuse_page(
                     &mut environment,
                     &mut temporary,
+                    &permanent,
+                    &trail,
                     &mut guard,
-                    &page,
-                    len,
+                    &wanted,
+                    state::page_of(&page, len),
                     Refusal::Memory,
+                    count,
                 );
-                return Course {
-                    state: at_rest(
-                        &environment,
-                        &temporary,
-                        &permanent,
-                        &trail,
-                        &guard,
-                        &wanted,
-                    ),
-                    ran: Ran {
-                        outcome: Outcome::Refused(Refusal::Memory),
-                        count,
-                    },
-                };
             }
             Way::Refuse(why) => {
-                refuse(
+                return refuse_page(
                     &mut environment,
                     &mut temporary,
+                    &permanent,
+                    &trail,
                     &mut guard,
-                    &page,
-                    len,
+                    &wanted,
+                    state::page_of(&page, len),
                     why,
+                    count,
                 );
-                return Course {
-                    state: at_rest(
-                        &environment,
-                        &temporary,
-                        &permanent,
-                        &trail,
-                        &guard,
-                        &wanted,
-                    ),
-                    ran: Ran {
-                        outcome: Outcome::Refused(why),
-                        count,
-                    },
-                };
             }
             Way::Away(start, stop) => {
                 state::note(&mut environment, 0, 0);
                 leave_unit(&mut trail, &page, len, unit);
                 want_from(&mut wanted, &page, len, start, stop);
-                keep_rule(&mut temporary, &mut guard, &page, len);
-                return Course {
-                    state: at_rest(
-                        &environment,
-                        &temporary,
-                        &permanent,
-                        &trail,
-                        &guard,
-                        &wanted,
-                    ),
-                    ran: Ran {
-                        outcome: Outcome::Page,
-                        count,
-                    },
-                };
+                return end_page(
+                    &environment,
+                    &mut temporary,
+                    &permanent,
+                    &trail,
+                    &mut guard,
+                    &wanted,
+                    state::page_of(&page, len),
+                    Outcome::Page,
+                    count,
+                );
             }
             Way::Back => {
                 state::note(&mut environment, 0, 0);
@@ -448,38 +412,30 @@ pub fn take_steps(state: State, most: usize, out: &mut [u8]) -> Course
                         place = unit::entry_of(state::page_of(&page, len), k);
                     }
                     Turn::Nowhere => {
-                        keep_rule(&mut temporary, &mut guard, &page, len);
-                        return Course {
-                            state: at_rest(
-                                &environment,
-                                &temporary,
-                                &permanent,
-                                &trail,
-                                &guard,
-                                &wanted,
-                            ),
-                            ran: Ran {
-                                outcome: Outcome::Ended,
-                                count,
-                            },
-                        };
+                        return end_page(
+                            &environment,
+                            &mut temporary,
+                            &permanent,
+                            &trail,
+                            &mut guard,
+                            &wanted,
+                            state::page_of(&page, len),
+                            Outcome::Ended,
+                            count,
+                        );
                     }
                     Turn::Page => {
-                        keep_rule(&mut temporary, &mut guard, &page, len);
-                        return Course {
-                            state: at_rest(
-                                &environment,
-                                &temporary,
-                                &permanent,
-                                &trail,
-                                &guard,
-                                &wanted,
-                            ),
-                            ran: Ran {
-                                outcome: Outcome::Page,
-                                count,
-                            },
-                        };
+                        return end_page(
+                            &environment,
+                            &mut temporary,
+                            &permanent,
+                            &trail,
+                            &mut guard,
+                            &wanted,
+                            state::page_of(&page, len),
+                            Outcome::Page,
+                            count,
+                        );
                     }
                 }
             }
