@@ -20,7 +20,7 @@ use Rattle.rules.specs.Page.{service, contentAt}
 use Rattle.rules.specs.Card.{Slot, free, held, Card}
 use Rattle.rules.specs.Store.{area, unserved, rank, worse, read, reading, undefinedIn, valueBytes}
 use Rattle.rules.specs.Value.{piecesOf, defined, complaint, joined}
-use Rattle.rules.specs.Step.{caseValue, casesComplaint, follow, followIn, isUndefined, choiceOf, choose}
+use Rattle.rules.specs.Step.{caseValue, casesComplaint, follow, followIn, isUndefined, caseChoice, choose}
 use Rattle.leaf.proofs.Cases.{both, was}
 use Rattle.tlv.proofs.Rows.{row-done, row-tlv, row-past}
 use Rattle.variable.specs.View.{seen, view}
@@ -129,8 +129,8 @@ unfoldable orRest : Choice → Tried → Choice
 orRest rest Passed = rest
 orRest rest (Settled d) = d
 
-choice-tried : (c : Card) (bytes : List ℕ) (stop : ℕ) (rest : Choice) (h : Head) → choiceOf c bytes stop rest h ≡ orRest rest (tried c bytes stop h)
-unfolding choiceOf tried orRest
+choice-tried : (c : Card) (bytes : List ℕ) (stop : ℕ) (rest : Choice) (h : Head) → caseChoice c bytes stop rest h ≡ orRest rest (tried c bytes stop h)
+unfolding caseChoice tried orRest
 choice-tried c bytes stop rest (Tlv tag from to) =
     both (isUndefined (complaint c [] (caseValue (c .run .page) tag from to))) (λ t. simp t)
     (λ t. both (same (joined c (caseValue (c .run .page) tag from to)) bytes) (λ t2. simp (t, t2)) (λ t2. simp (t, t2)))

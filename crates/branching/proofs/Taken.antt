@@ -15,15 +15,15 @@ use Rattle.rules.specs.Tlvs.{Tlvs, done, past, tlv, tlvs}
 use Rattle.rules.specs.Page.{service}
 use Rattle.rules.specs.Card.{Slot, free, held, Card}
 use Rattle.rules.specs.Store.{area, unserved, read, worse}
-use Rattle.rules.specs.Step.{Plan, unless, caseValue, casesComplaint, choiceOf, choose, chosen, branchOnSlot, branchOnValue}
+use Rattle.rules.specs.Step.{Plan, unless, caseValue, casesComplaint, caseChoice, choose, chosen, branchOnSlot, branchOnValue}
 use Rattle.variable.specs.View.{seen, bare, view}
 use Rattle.variable.proofs.Bare.{bare-read}
 use Rattle.value.proofs.Bare.{bare-complaint, bare-joined}
 use Rattle.branching.specs.declared.Branch.{Branch}
 use Rattle.branching.specs.Branch.{refusedBy, branchFor, branchSlot, branchChoice, takenOn}
 
-bare-choice : (c : Card) (bytes : List ℕ) (stop : ℕ) (rest : Choice) (h : Head) → choiceOf (bare c) bytes stop rest h ≡ choiceOf c bytes stop rest h
-unfolding choiceOf bare seen
+bare-choice : (c : Card) (bytes : List ℕ) (stop : ℕ) (rest : Choice) (h : Head) → caseChoice (bare c) bytes stop rest h ≡ caseChoice c bytes stop rest h
+unfolding caseChoice bare seen
 bare-choice c bytes stop rest (Tlv tag from to) =
     rw (bare-complaint c [] (caseValue (c .run .page) tag from to), bare-joined c (caseValue (c .run .page) tag from to))
 bare-choice c bytes stop rest Past = refl

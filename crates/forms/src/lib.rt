@@ -7,7 +7,7 @@ ghost use mathlib.Core.Path.{_≡_};
 ghost use mathlib.Core.Bool.{true, false};
 ghost use Prim.Native.Nat.{_≤_};
 ghost use lib.ListN.{length};
-ghost use Rattle.rules.specs.Tlvs.{tlvs, count};
+ghost use Rattle.rules.specs.Tlvs.{count};
 ghost use Rattle.rules.specs.Pieces.{pieces};
 ghost use Rattle.rules.specs.Page.{pageRow};
 ghost use Rattle.rules.specs.Shape.{bodyOf};

@@ -1,18 +1,17 @@
 -- The ways through the keep rule, in the shape of the needs. Assumes nothing.
 use Prim.Native.Nat.{ℕ, _≤_, _<_}
-use mathlib.Core.Bool.{Bool, true, false, cond}
+use mathlib.Core.Bool.{Bool, true, false}
 use mathlib.Core.List.{List}
-use mathlib.Core.Path.{_≡_, refl, sym, ap, _∙_}
+use mathlib.Core.Path.{_≡_, refl, sym, _∙_}
 use native.Mathlib.Omega.{arith}
 use lib.ListN.{length, drop}
 use Rattle.pour.specs.Pour.{blank}
 use Rattle.rules.specs.Bytes.{same, part}
 use Rattle.rules.specs.Page.{keepsAll, keepList, password, unlock, bytesOf}
-use Rattle.rules.specs.Card.{Slot, Guard, unlocked, locked}
 use Rattle.rules.specs.Keep.{cleared, listed, keptBy, guardBy, unlocks}
 use Rattle.rules.specs.declared.Part.{Part}
 use Rattle.rules.specs.declared.Part.the-variants.{Held, Missing}
-use Rattle.slots.specs.Slots.{slots, tidySlots}
+use Rattle.slots.specs.Slots.{slots}
 use Rattle.word.specs.Word.{wordIn, isMarked, laidMarked, guardOf, tidyGuard}
 use Rattle.word.proofs.Parts.{guard-blank, guard-laid, blank-guard, laid-guard}
 use Rattle.keep.specs.Opens.{opens}

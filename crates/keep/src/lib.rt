@@ -5,7 +5,7 @@ ghost use mathlib.Core.Bool.{true};
 ghost use Prim.Native.Nat.{_≤_};
 ghost use lib.ListN.{length};
 ghost use Rattle.rules.specs.Page.{keepList, password, bytesOf};
-ghost use Rattle.rules.specs.Keep.{keptBy, guardBy, openedBy};
+ghost use Rattle.rules.specs.Keep.{keptBy, guardBy};
 ghost use Rattle.slots.specs.Slots.{slots, tidySlots};
 ghost use Rattle.word.specs.Word.{guardOf, tidyGuard};
 ghost use Rattle.keep.specs.Opens.{opens};

@@ -36,6 +36,7 @@ use Rattle.word.specs.Word.{isMarked}
 use Rattle.state.specs.declared.State.{State}
 use Rattle.state.specs.State.{Is, card, cardOf, pageOf}
 use Rattle.state.proofs.Canonical.{is-card}
+use Rattle.state.proofs.Changes.{new-environment}
 use Rattle.moving.specs.declared.Moved.{Moved}
 use Rattle.sending.specs.Sent.{Sends}
 use Rattle.machine.specs.declared.Machine.{Machine}
@@ -122,31 +123,12 @@ module _ (m : Machine) where
 
             pub set-done : length value ≤ 255 → (k : ℕ) → k ≡ number → (environment : List ℕ) → slots environment ≡ set (slots (m .state .environment)) k (held 3 value) → (tidySlots (m .state .environment) ≡ true → tidySlots environment ≡ true)
                 → Meets (setEnvironment number value) m (told Done) (record { state = record { page = m .state .page; len = m .state .len; environment = environment; temporary = m .state .temporary; permanent = m .state .permanent; trail = m .state .trail; guard = m .state .guard; hand = m .state .hand; wanted = m .state .wanted; unit = m .state .unit; place = m .state .place } })
-            unfolding environmentDone withEnvironment pageOf
+            unfolding environmentDone
             set-done l k y environment f i =
                 let is = sound-is (m .state) (some t) in
                 done-meets (setEnvironment number value) (told Done) (record { state = record { page = m .state .page; len = m .state .len; environment = environment; temporary = m .state .temporary; permanent = m .state .permanent; trail = m .state .trail; guard = m .state .guard; hand = m .state .hand; wanted = m .state .wanted; unit = m .state .unit; place = m .state .place } })
                 (did (told Done) (withEnvironment (cardOf (m .state)) (set ((cardOf (m .state)) .environment) number (held 3 value)))) (some t) (reaches ∙ rw (le-ltb _ _ h, ne-eqb _ _ x, le-ltb _ _ l) refl) refl
-                (record {
-                  environment = rw (← is .environment, ← y) f;
-                  temporary = is .temporary;
-                  permanent = is .permanent;
-                  guard = is .guard;
-                  history = is .history;
-                  page = is .page;
-                  unit = is .unit;
-                  place = is .place;
-                  hand = is .hand;
-                  wanted = is .wanted;
-                  tidyEnvironment = i (is .tidyEnvironment);
-                  tidyTemporary = is .tidyTemporary;
-                  tidyPermanent = is .tidyPermanent;
-                  tidyGuarded = is .tidyGuarded;
-                  tidyHistory = is .tidyHistory;
-                  tidyRun = is .tidyRun;
-                  tidyHeld = is .tidyHeld;
-                  tidyWant = is .tidyWant;
-                })
+                (new-environment _ _ is environment _ (rw (← is .environment, ← y) f) (i (is .tidyEnvironment)))
 
     module _ (s : List ℕ) where
       pub load-none : b ≡ false → Meets (load s) m (loaded (Unloaded NoCard)) m

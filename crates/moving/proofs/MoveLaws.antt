@@ -22,11 +22,11 @@ use Rattle.rules.specs.Bytes.{part, hex, hexTo}
 use Rattle.rules.specs.Loader.{judge}
 use Rattle.rules.specs.Page.{bytesOf, password, entryOf}
 use Rattle.rules.specs.Reference.{target}
-use Rattle.rules.specs.Card.{Slot, held, Card, withEnvironment, withHistory, withRun, withWanted}
+use Rattle.rules.specs.Card.{Slot, held, Card, withEnvironment, withHistory, withWanted}
 use Rattle.rules.specs.Keep.{rested}
-use Rattle.rules.specs.Trail.{left, last, lowered}
+use Rattle.rules.specs.Trail.{last, lowered}
 use Rattle.rules.specs.IsCard.{historyFine}
-use Rattle.rules.specs.Step.{effect, marked, placed, entered, leaving, wanting, backTo, goBack, moved, onwards, jump, away, back, finish, failed, refuses, applied, branch, branchBy, perform}
+use Rattle.rules.specs.Step.{effect, marked, entered, leaving, wanting, backTo, goBack, moved, onwards, jump, away, back, finish, failed, refuses, applied, branch, branchBy, perform}
 use Rattle.rules.proofs.StaysCardHistory.{history-fit, last-wanted, bounds}
 use Rattle.slots.specs.Slots.{slots, tidySlots}
 use Rattle.trail.specs.Trail.{historyOf, tidyTrail}
@@ -34,11 +34,13 @@ use Rattle.word.specs.Word.{wordIn, laidWord, tidyWanted}
 use Rattle.word.proofs.Parts.{hand-blank, blank-hand, laid-wanted}
 use Rattle.word.proofs.Same.{word-laid}
 use Rattle.leaving.specs.Leaving.{entryFor, leftBy}
-use Rattle.leaving.proofs.Accepted.{accepted-password, left-by}
+use Rattle.leaving.proofs.Accepted.{accepted-password}
 use Rattle.state.specs.declared.State.{State}
 use Rattle.state.specs.State.{Is, pageOf}
+use Rattle.state.proofs.Changes.{new-wanted}
 use Rattle.moving.specs.declared.Moved.{Moved}
 use Rattle.moving.specs.Moved.{Comes, Bounded}
+use Rattle.moving.proofs.Parts.{entry-is, noted-as, noted, placed-is, left-is, lowered-is}
 
 -- the second byte of each code (12.3)
 module _ (why : Refusal) where
@@ -95,34 +97,10 @@ pub ruleset note-laws = (note-none, note-some)
 
 module _ (m : State) (c : Card) (is : Is m c) where
   module _ (bytes environment : List ℕ) (e : slots environment ≡ set (slots (m .environment)) 5 (held 3 bytes)) (t : tidySlots (m .environment) ≡ true → tidySlots environment ≡ true) where
-    noted-is : Is (record { page = m .page; len = m .len; environment = environment; temporary = m .temporary; permanent = m .permanent; trail = m .trail; guard = m .guard; hand = m .hand; wanted = m .wanted; unit = m .unit; place = m .place }) (marked bytes c)
-    unfolding marked withEnvironment pageOf
-    noted-is =
-        record {
-          environment = rw (← is .environment) e;
-          temporary = is .temporary;
-          permanent = is .permanent;
-          guard = is .guard;
-          history = is .history;
-          page = is .page;
-          unit = is .unit;
-          place = is .place;
-          hand = is .hand;
-          wanted = is .wanted;
-          tidyEnvironment = t (is .tidyEnvironment);
-          tidyTemporary = is .tidyTemporary;
-          tidyPermanent = is .tidyPermanent;
-          tidyGuarded = is .tidyGuarded;
-          tidyHistory = is .tidyHistory;
-          tidyRun = is .tidyRun;
-          tidyHeld = is .tidyHeld;
-          tidyWant = is .tidyWant;
-        }
-
     module _ (ok : judge (c .run .page) ≡ Accepted) (r : State) (f : (d : Card) → Is (record { page = m .page; len = m .len; environment = environment; temporary = m .temporary; permanent = m .permanent; trail = m .trail; guard = m .guard; hand = m .hand; wanted = m .wanted; unit = m .unit; place = m .place }) d → length (bytesOf (d .run .page) (password (d .run .page))) ≤ 16 → Is r (rested d)) where
       rests : Is r (rested (marked bytes c))
       unfolding marked withEnvironment
-      rests = f (marked bytes c) noted-is (accepted-password (c .run .page) ok)
+      rests = f (marked bytes c) (noted-as m c is environment t bytes e) (accepted-password (c .run .page) ok)
 
       pub fail-is : (why : Refusal) → bytes ≡ code why → Comes (record { state = r; outcome = Refused why }) (applied c (refuses why))
       unfolding applied failed
@@ -137,139 +115,39 @@ module _ (m : State) (c : Card) (is : Is m c) where
 
   pub enter-is : (k place : ℕ) (s hand : List ℕ) → s ≡ take (m .len) (m .page) → place ≡ entryOf s k → hand ≡ blank 257
       → Comes (record { state = record { page = m .page; len = m .len; environment = m .environment; temporary = m .temporary; permanent = m .permanent; trail = m .trail; guard = m .guard; hand = hand; wanted = m .wanted; unit = k; place = place }; outcome = On }) (effect On (entered c k))
-  unfolding entered withRun pageOf
   enter-is k place s hand p q h =
-      record {
-        outcome = refl;
-        state =
-            record {
-              environment = is .environment;
-              temporary = is .temporary;
-              permanent = is .permanent;
-              guard = is .guard;
-              history = is .history;
-              page = is .page;
-              unit = refl;
-              place = q ∙ ap (λ (x : List ℕ). entryOf x k) (p ∙ is .page);
-              hand = rw h hand-blank;
-              wanted = is .wanted;
-              tidyEnvironment = is .tidyEnvironment;
-              tidyTemporary = is .tidyTemporary;
-              tidyPermanent = is .tidyPermanent;
-              tidyGuarded = is .tidyGuarded;
-              tidyHistory = is .tidyHistory;
-              tidyRun = is .tidyRun;
-              tidyHeld = rw h blank-hand;
-              tidyWant = is .tidyWant;
-            };
-      }
+      record { outcome = refl; state = entry-is m c is k place hand (q ∙ ap (λ (x : List ℕ). entryOf x k) p) (rw h hand-blank) (rw h blank-hand) }
 
   module _ (environment : List ℕ) (e : slots environment ≡ set (slots (m .environment)) 5 (held 3 (0 ∷ 0 ∷ []))) (t : tidySlots (m .environment) ≡ true → tidySlots environment ≡ true) where
     pub go-on-is : (place : ℕ) (hand : List ℕ) → hand ≡ blank 257 → Comes (record { state = record { page = m .page; len = m .len; environment = environment; temporary = m .temporary; permanent = m .permanent; trail = m .trail; guard = m .guard; hand = hand; wanted = m .wanted; unit = m .unit; place = place }; outcome = On }) (moved c (onwards place))
-    unfolding moved placed marked withRun withEnvironment noError hex hexTo pageOf
-    go-on-is place hand h =
-        record {
-          outcome = refl;
-          state =
-              record {
-                environment = rw (← is .environment) e;
-                temporary = is .temporary;
-                permanent = is .permanent;
-                guard = is .guard;
-                history = is .history;
-                page = is .page;
-                unit = is .unit;
-                place = refl;
-                hand = rw h hand-blank;
-                wanted = is .wanted;
-                tidyEnvironment = t (is .tidyEnvironment);
-                tidyTemporary = is .tidyTemporary;
-                tidyPermanent = is .tidyPermanent;
-                tidyGuarded = is .tidyGuarded;
-                tidyHistory = is .tidyHistory;
-                tidyRun = is .tidyRun;
-                tidyHeld = rw h blank-hand;
-                tidyWant = is .tidyWant;
-              };
-        }
+    unfolding moved
+    go-on-is place hand h = record { outcome = refl; state = placed-is m c is environment t e place hand (rw h hand-blank) (rw h blank-hand) }
 
     module _ (ok : judge (c .run .page) ≡ Accepted) where
       module _ (s entry : List ℕ) (n : ℕ) (p : s ≡ take (m .len) (m .page)) (q : judge s ≡ Accepted → take n entry ≡ entryFor s (m .unit))
           (trail : List ℕ) (h : historyOf trail ≡ leftBy (take n entry) (historyOf (m .trail))) (i : tidyTrail (m .trail) ≡ true → tidyTrail trail ≡ true) (r : Moved) where
-        left-history : historyOf trail ≡ left (c .run .page) (c .run .unit) (c .history)
-        unfolding pageOf
-        left-history =
-            let o : s ≡ c .run .page = p ∙ is .page in
-            h ∙ rw (q (rw o ok), o, is .unit, is .history) (left-by (c .run .page) (c .run .unit) (c .history))
-
-        left-is : Is (record { page = m .page; len = m .len; environment = environment; temporary = m .temporary; permanent = m .permanent; trail = trail; guard = m .guard; hand = m .hand; wanted = m .wanted; unit = m .unit; place = m .place }) (leaving (marked noError c))
-        unfolding leaving marked withHistory withEnvironment noError hex hexTo pageOf
-        left-is =
-            record {
-              environment = rw (← is .environment) e;
-              temporary = is .temporary;
-              permanent = is .permanent;
-              guard = is .guard;
-              history = left-history;
-              page = is .page;
-              unit = is .unit;
-              place = is .place;
-              hand = is .hand;
-              wanted = is .wanted;
-              tidyEnvironment = t (is .tidyEnvironment);
-              tidyTemporary = is .tidyTemporary;
-              tidyPermanent = is .tidyPermanent;
-              tidyGuarded = is .tidyGuarded;
-              tidyHistory = i (is .tidyHistory);
-              tidyRun = is .tidyRun;
-              tidyHeld = is .tidyHeld;
-              tidyWant = is .tidyWant;
-            }
+        gone : Is (record { page = m .page; len = m .len; environment = environment; temporary = m .temporary; permanent = m .permanent; trail = trail; guard = m .guard; hand = m .hand; wanted = m .wanted; unit = m .unit; place = m .place }) (leaving (marked noError c))
+        gone = left-is m c is environment t e trail i ok (λ k. h ∙ rw (q (rw p k), p) refl)
 
         pub jump-is : (k : ℕ) → ((d : Card) → Is (record { page = m .page; len = m .len; environment = environment; temporary = m .temporary; permanent = m .permanent; trail = trail; guard = m .guard; hand = m .hand; wanted = m .wanted; unit = m .unit; place = m .place }) d → Comes r (effect On (entered d k))) → Comes r (moved c (jump k))
         unfolding moved
-        jump-is k f = f (leaving (marked noError c)) left-is
+        jump-is k f = f (leaving (marked noError c)) gone
 
         pub away-is : (w : List ℕ) → length w ≤ 65 → ((d : Card) → Is (record { page = m .page; len = m .len; environment = environment; temporary = m .temporary; permanent = m .permanent; trail = trail; guard = m .guard; hand = m .hand; wanted = m .wanted; unit = m .unit; place = m .place }) d → judge (d .run .page) ≡ Accepted → length w ≤ 65 → Comes r (wanting d w)) → Comes r (moved c (away w))
         unfolding moved leaving marked withHistory withEnvironment
-        away-is w l f = f (leaving (marked noError c)) left-is ok l
+        away-is w l f = f (leaving (marked noError c)) gone ok l
 
       module _ (r : Moved) where
-        noted : Is (record { page = m .page; len = m .len; environment = environment; temporary = m .temporary; permanent = m .permanent; trail = m .trail; guard = m .guard; hand = m .hand; wanted = m .wanted; unit = m .unit; place = m .place }) (marked noError c)
-        unfolding noError hex hexTo
-        noted = noted-is (0 ∷ 0 ∷ []) environment e t
-
         pub back-none : (p : ℕ) → p ≡ historyOf (m .trail) .pointer → p ≡ 0 → ((d : Card) → Is (record { page = m .page; len = m .len; environment = environment; temporary = m .temporary; permanent = m .permanent; trail = m .trail; guard = m .guard; hand = m .hand; wanted = m .wanted; unit = m .unit; place = m .place }) d → judge (d .run .page) ≡ Accepted → Comes r (effect Ended (rested d))) → Comes r (moved c back)
         unfolding moved goBack marked withEnvironment
         back-none p x y f =
             let k : eqb (c .history .pointer) 0 ≡ true = rw (← is .history, ← x) (eq-eqb _ _ y) in
-            rw k (f (marked noError c) noted ok)
+            rw k (f (marked noError c) (noted m c is environment t e) ok)
 
         module _ (p : ℕ) (x : p ≡ historyOf (m .trail) .pointer) (y : p ≡ 0 → ⊥) (w : List ℕ) (z : w ≡ last (historyOf (m .trail))) (trail : List ℕ) (h : historyOf trail ≡ lowered (historyOf (m .trail)))
             (i : tidyTrail (m .trail) ≡ true → tidyTrail trail ≡ true) (s : List ℕ) (o : s ≡ take (m .len) (m .page)) (g : Target) (j : g ≡ target s w) where
-          lowered-is : Is (record { page = m .page; len = m .len; environment = environment; temporary = m .temporary; permanent = m .permanent; trail = trail; guard = m .guard; hand = m .hand; wanted = m .wanted; unit = m .unit; place = m .place }) (withHistory (marked noError c) (lowered (c .history)))
-          unfolding marked withHistory withEnvironment noError hex hexTo pageOf
-          lowered-is =
-              record {
-                environment = rw (← is .environment) e;
-                temporary = is .temporary;
-                permanent = is .permanent;
-                guard = is .guard;
-                history = rw (← is .history) h;
-                page = is .page;
-                unit = is .unit;
-                place = is .place;
-                hand = is .hand;
-                wanted = is .wanted;
-                tidyEnvironment = t (is .tidyEnvironment);
-                tidyTemporary = is .tidyTemporary;
-                tidyPermanent = is .tidyPermanent;
-                tidyGuarded = is .tidyGuarded;
-                tidyHistory = i (is .tidyHistory);
-                tidyRun = is .tidyRun;
-                tidyHeld = is .tidyHeld;
-                tidyWant = is .tidyWant;
-              }
+          returns : Is (record { page = m .page; len = m .len; environment = environment; temporary = m .temporary; permanent = m .permanent; trail = trail; guard = m .guard; hand = m .hand; wanted = m .wanted; unit = m .unit; place = m .place }) (withHistory (marked noError c) (lowered (c .history)))
+          returns = lowered-is m c is environment t e trail i h
 
           back-is : moved c back ≡ backTo (withHistory (marked noError c) (lowered (c .history))) w g
           unfolding moved goBack marked withEnvironment pageOf
@@ -281,7 +159,7 @@ module _ (m : State) (c : Card) (is : Is m c) where
 
           pub back-unit : (k : ℕ) → g ≡ UnitAt k → ((d : Card) → Is (record { page = m .page; len = m .len; environment = environment; temporary = m .temporary; permanent = m .permanent; trail = trail; guard = m .guard; hand = m .hand; wanted = m .wanted; unit = m .unit; place = m .place }) d → Comes r (effect On (entered d k))) → Comes r (moved c back)
           unfolding backTo
-          back-unit k b f = rw (back-is, b) (f _ lowered-is)
+          back-unit k b f = rw (back-is, b) (f _ returns)
 
           module _ (fine : historyFine (c .history) ≡ true) (f : (d : Card) → Is (record { page = m .page; len = m .len; environment = environment; temporary = m .temporary; permanent = m .permanent; trail = trail; guard = m .guard; hand = m .hand; wanted = m .wanted; unit = m .unit; place = m .place }) d → judge (d .run .page) ≡ Accepted → length w ≤ 65 → Comes r (wanting d w)) where
             fetched : Comes r (wanting (withHistory (marked noError c) (lowered (c .history))) w)
@@ -289,7 +167,7 @@ module _ (m : State) (c : Card) (is : Is m c) where
             fetched =
                 let v : w ≡ last (c .history) = rw (← is .history) z in
                 let u : eqb (c .history .pointer) 0 ≡ false = rw (← is .history, ← x) (ne-eqb _ _ y) in
-                f _ lowered-is ok (rw v (bounds 2 65 (length (last (c .history))) (last-wanted (c .history) (history-fit (c .history) fine) u) .1))
+                f _ returns ok (rw v (bounds 2 65 (length (last (c .history))) (last-wanted (c .history) (history-fit (c .history) fine) u) .1))
 
             pub back-lacking : g ≡ Lacking → Comes r (moved c back)
             unfolding backTo
@@ -301,33 +179,9 @@ module _ (m : State) (c : Card) (is : Is m c) where
 
   pub fetch-is : (w wanted : List ℕ) → (length w ≤ 65 → wordIn wanted ≡ w) → (tidyWanted (m .wanted) ≡ true → tidyWanted wanted ≡ true) → judge (c .run .page) ≡ Accepted → length w ≤ 65 → (r : State)
       → ((d : Card) → Is (record { page = m .page; len = m .len; environment = m .environment; temporary = m .temporary; permanent = m .permanent; trail = m .trail; guard = m .guard; hand = m .hand; wanted = wanted; unit = m .unit; place = m .place }) d → length (bytesOf (d .run .page) (password (d .run .page))) ≤ 16 → Is r (rested d)) → Comes (record { state = r; outcome = Page }) (wanting c w)
-  unfolding wanting withWanted pageOf
+  unfolding wanting withWanted
   fetch-is w wanted x t ok l r f =
-      record {
-        outcome = refl;
-        state = f (withWanted c w)
-            (record {
-              environment = is .environment;
-              temporary = is .temporary;
-              permanent = is .permanent;
-              guard = is .guard;
-              history = is .history;
-              page = is .page;
-              unit = is .unit;
-              place = is .place;
-              hand = is .hand;
-              wanted = x l;
-              tidyEnvironment = is .tidyEnvironment;
-              tidyTemporary = is .tidyTemporary;
-              tidyPermanent = is .tidyPermanent;
-              tidyGuarded = is .tidyGuarded;
-              tidyHistory = is .tidyHistory;
-              tidyRun = is .tidyRun;
-              tidyHeld = is .tidyHeld;
-              tidyWant = t (is .tidyWant);
-            })
-            (accepted-password (c .run .page) ok);
-      }
+      record { outcome = refl; state = f (withWanted c w) (new-wanted m c is wanted w (x l) (t (is .tidyWant))) (accepted-password (c .run .page) ok) }
 
   module _ (ok : judge (c .run .page) ≡ Accepted) (start stop : ℕ) (r : Moved) where
     pub depart-is : (s w : List ℕ) → s ≡ take (m .len) (m .page) → w ≡ part s start stop → length (part (c .run .page) start stop) ≤ 65

@@ -21,7 +21,7 @@ use Rattle.rules.specs.Value.{piecesOf, complaint, joined, sharedWith, s
 use Rattle.rules.specs.Keep.{rested}
 use Rattle.rules.specs.Trail.{last, lowered}
 use Rattle.rules.specs.Command.{Execute, executeOf, resultComplaint, indicatorComplaint, executeComplaint, simpleTlvs, allowed, expanded, commandBody, command, hasGeneral, hasOutput, generalNumber, outputNumber, output, writeSlot, thenOutput, results}
-use Rattle.rules.specs.Step.{Move, onwards, jump, away, back, send, finish, Plan, refuses, does, runsOut, unless, storing, branchBy, branch, perform, numberBefore, settingComplaint, thenSet, setAll, setVariable, listAt, getLength, caseValue, casesComplaint, follow, choiceOf, choose, chosen, branchOnSlot, branchOnValue, exit, execute}
+use Rattle.rules.specs.Step.{Move, onwards, jump, away, back, send, finish, Plan, refuses, does, runsOut, unless, storing, branchBy, branch, perform, numberBefore, settingComplaint, thenSet, setAll, setVariable, listAt, getLength, caseValue, casesComplaint, follow, caseChoice, choose, chosen, branchOnSlot, branchOnValue, exit, execute}
 use Rattle.rules.specs.Step.{ByteCode, settingVariables, goingBack, branching, exiting, executing, gettingLength, unknown, byteCode, planBy, planFor, here, decide, withResults, answerBy, answerFor, Effect, effect, marked, placed, entered, sending, leaving, wanting, backTo, goBack, moved, failed, applied, stepped, answered}
 use Rattle.rules.specs.declared.Head.{Head}
 use Rattle.rules.specs.declared.Head.the-variants.{Tlv, Past}
@@ -140,18 +140,18 @@ module _ (hides : List ℕ → Bool) (c : Card) (clean : hides (service (c .run 
   listAt-see (Tlv tag start stop) = refl
   listAt-see Past = refl
 
-  choiceOf-see : (bytes : List ℕ) (stop : ℕ) {x y : Choice} → x ≡ y → (h : Head) → choiceOf (see hides c) bytes stop x h ≡ choiceOf c bytes stop y h
-  unfolding choiceOf
-  choiceOf-see bytes stop e (Tlv tag from to) =
+  caseChoice-see : (bytes : List ℕ) (stop : ℕ) {x y : Choice} → x ≡ y → (h : Head) → caseChoice (see hides c) bytes stop x h ≡ caseChoice c bytes stop y h
+  unfolding caseChoice
+  caseChoice-see bytes stop e (Tlv tag from to) =
       rw (e, complaint-see [] (caseValue (c .run .page) tag from to), joined-see (caseValue (c .run .page) tag from to))
-  choiceOf-see bytes stop e Past = e
+  caseChoice-see bytes stop e Past = e
 
   choose-see : (bytes : List ℕ) (row : Tlvs) → choose (see hides c) bytes row ≡ choose c bytes row
   unfolding choose
   choose-see bytes (done p) = refl
   choose-see bytes (past p) = refl
   choose-see bytes (tlv tag at start stop rest) =
-      ap (cond (eqb tag 0x12) (follow (headAt (c .run .page) start stop))) (choiceOf-see bytes stop (choose-see bytes rest) (headAt (c .run .page) start stop))
+      ap (cond (eqb tag 0x12) (follow (headAt (c .run .page) start stop))) (caseChoice-see bytes stop (choose-see bytes rest) (headAt (c .run .page) start stop))
 
 module _ (hides : List ℕ → Bool) (m : List Record) where
   thenSet-ok : (f : Card → Written) → ((d : Card) → Safe hides m d → Writes hides m (f (see hides d)) (f d)) → {v w : Written} → Writes hides m v w →

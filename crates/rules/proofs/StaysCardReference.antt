@@ -21,7 +21,7 @@ use Rattle.rules.specs.Handler.{goTo, branchBy, actionBy, actionAt, acti
 use Rattle.rules.specs.Loader.{judge}
 use Rattle.rules.specs.Card.{Card}
 use Rattle.rules.specs.Value.{complaint, joined}
-use Rattle.rules.specs.Step.{caseValue, follow, followIn, isUndefined, choiceOf, choose}
+use Rattle.rules.specs.Step.{caseValue, follow, followIn, isUndefined, caseChoice, choose}
 use Rattle.rules.specs.IsCard.{within}
 use Rattle.rules.specs.declared.Head.{Head}
 use Rattle.rules.specs.declared.Head.the-variants.{Tlv, Past}
@@ -237,16 +237,16 @@ module _ (c : Card) where
   abbrev s : List ℕ
   s = c .run .page
 
-  choiceOf-ref : (bytes : List ℕ) (left start stop : ℕ) (rest : Choice) → stop ≤ length s → Sound s (suc left) caseKind start 0 (tlvs 0 s start stop) → ChoiceRef s rest →
-      (h : Head) → headAt s start stop ≡ h → ChoiceRef s (choiceOf c bytes stop rest h)
-  unfolding choiceOf every tagsOf grammar cellOf cellIn among
-  choiceOf-ref bytes left start stop rest l k r (Tlv tag from to) e =
+  caseChoice-ref : (bytes : List ℕ) (left start stop : ℕ) (rest : Choice) → stop ≤ length s → Sound s (suc left) caseKind start 0 (tlvs 0 s start stop) → ChoiceRef s rest →
+      (h : Head) → headAt s start stop ≡ h → ChoiceRef s (caseChoice c bytes stop rest h)
+  unfolding caseChoice every tagsOf grammar cellOf cellIn among
+  caseChoice-ref bytes left start stop rest l k r (Tlv tag from to) e =
       let i = first-proper s stop (suc left) caseKind start 0 start tag from to (tlvs 0 s start stop) (row-of s stop start) k e in
       let f = known-tag s (suc left) caseKind start 0 tag start from to (i .0) (λ t. leb 17 (cellOf caseKind t)) refl in
       let v = behind-value s left start (cellOf caseKind tag) to stop (i .1 .0) (leb-true 17 (cellOf caseKind tag) f) l (i .1 .1) (i .1 .2) (headAt s to stop) refl in
       either (ChoiceRef s) (isUndefined (complaint c [] (caseValue s tag from to))) {a = Unknown} (λ _. tt)
       (λ _. either (ChoiceRef s) (same (joined c (caseValue s tag from to)) bytes) (λ _. v) (λ _. r))
-  choiceOf-ref bytes left start stop rest l k r Past e = r
+  caseChoice-ref bytes left start stop rest l k r Past e = r
 
   pub choose-ref : (bytes : List ℕ) (left from last end at : ℕ) (r : Tlvs) → end ≤ length s → Row s end at r → Sound s (suc (suc left)) branchKind from last r → ChoiceRef s (choose c bytes r)
   unfolding choose every tagsOf grammar contentAt attributesEnd spotOr shapeOf shapes numberIn among followsOf kindOf fixedOf kindAt gapOf
@@ -262,7 +262,7 @@ module _ (c : Card) where
       let h : Proper s (suc (suc left)) branchKind from last 0x11 p start stop = rw (eqb-true tag 0x11 (other (eqb tag 0x12) (eqb tag 0x11) f t)) at (i .0) in
       let v = inner-of s 0x11 start stop (λ kind p′. eqb kind commandKind ≡ false → Walked s (suc (suc left)) kind p p′ stop) branchKind refl refl (h .into) in
       let y = walked-row s (suc left) caseKind p start stop (rw (add-zero start) at (v refl)) .0 in
-      choiceOf-ref bytes left start stop (choose c bytes rest) (omega arith) y (choose-ref bytes left from (cellOf branchKind tag) end stop rest l (w .2) (i .1)) (headAt s start stop) refl)
+      caseChoice-ref bytes left start stop (choose c bytes rest) (omega arith) y (choose-ref bytes left from (cellOf branchKind tag) end stop rest l (w .2) (i .1)) (headAt s start stop) refl)
 
   -- the cases of a Branch On Variable Value that stands at a place of a unit
   pub branch-ref : (bytes : List ℕ) (from last at start stop : ℕ) → stop ≤ length s → Proper s 5 unitKind from last 0x44 at start stop → ChoiceRef s (choose c bytes (tlvs 0 s (start + 1) stop))

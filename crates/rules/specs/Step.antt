@@ -158,12 +158,12 @@ isUndefined Secured = false
 isUndefined Misused = false
 
 -- a case matches where its value equals the variable's in length and bytes; `stop` is the case's end, and its page reference stands last
-unfoldable pub choiceOf : Card → List ℕ → ℕ → Choice → Head → Choice
-choiceOf c bytes stop rest (Tlv tag from to) =
+unfoldable pub caseChoice : Card → List ℕ → ℕ → Choice → Head → Choice
+caseChoice c bytes stop rest (Tlv tag from to) =
     let value = caseValue (c .run .page) tag from to in
     cond (isUndefined (complaint c [] value)) Unknown
     (cond (same (joined c value) bytes) (followIn (c .run .page) (headAt (c .run .page) to stop)) rest)
-choiceOf c bytes stop rest Past = rest
+caseChoice c bytes stop rest Past = rest
 
 -- the first match, or the page reference behind the cases, or no branch
 unfoldable pub choose : Card → List ℕ → Tlvs → Choice
@@ -171,7 +171,7 @@ choose c bytes (done p) = Stay
 choose c bytes (past p) = Stay
 choose c bytes (tlv tag at start stop rest) =
     cond (eqb tag 0x12) (follow (headAt (c .run .page) start stop))
-    (choiceOf c bytes stop (choose c bytes rest) (headAt (c .run .page) start stop))
+    (caseChoice c bytes stop (choose c bytes rest) (headAt (c .run .page) start stop))
 
 unfoldable pub chosen : Card → ℕ → Choice → Plan
 chosen c next (Follow start stop) = branch c (part (c .run .page) start stop)

@@ -22,14 +22,14 @@ use Rattle.rules.specs.Tlvs.{tlvs}
 use Rattle.rules.specs.Pieces.{named}
 use Rattle.rules.specs.Loader.{judge}
 use Rattle.rules.specs.Page.{service, entryOf, keepList, password, bytesOf}
-use Rattle.rules.specs.Card.{Card, Hand, empty, byCode, held, isEmpty, withRun, withHistory, withEnvironment, withWanted}
+use Rattle.rules.specs.Card.{Card, Hand, empty, byCode, held, isEmpty, withHistory, withEnvironment, withWanted}
 use Rattle.rules.specs.Reference.{target}
-use Rattle.rules.specs.Trail.{left, last, lowered}
+use Rattle.rules.specs.Trail.{last, lowered}
 use Rattle.rules.specs.Store.{wrote, noRoom, write}
 use Rattle.rules.specs.Value.{joined, shortest}
 use Rattle.rules.specs.Command.{executeOf, command}
 use Rattle.rules.specs.Keep.{keptBy, guardBy, rested}
-use Rattle.rules.specs.Step.{Effect, effect, marked, placed, entered, leaving, wanting, backTo, goBack, failed, onwards, send, moved, refuses, applied, setAll, decide, stepped}
+use Rattle.rules.specs.Step.{Effect, effect, marked, entered, leaving, wanting, backTo, goBack, failed, onwards, send, moved, refuses, applied, setAll, decide, stepped}
 use Rattle.rules.specs.Calls.{bufferAfter, Counted, goesOn, steps}
 use Rattle.leaf.proofs.Cases.{both}
 use Rattle.rules.proofs.StaysCardHistory.{history-fit, last-wanted, bounds}
@@ -40,14 +40,15 @@ use Rattle.trail.specs.Trail.{historyOf, tidyTrail}
 use Rattle.word.specs.Word.{laidMarked, wordIn, guardOf, handOf, tidyGuard, tidyWanted}
 use Rattle.variable.specs.View.{bare, view}
 use Rattle.leaving.specs.Leaving.{entryFor, leftBy}
-use Rattle.leaving.proofs.Accepted.{accepted-service, accepted-password, left-by}
+use Rattle.leaving.proofs.Accepted.{accepted-service, accepted-password}
 use Rattle.state.specs.declared.State.{State}
 use Rattle.state.specs.State.{Is, card, runOf, pageOf}
 use Rattle.state.proofs.Canonical.{is-card}
 use Rattle.state.proofs.RestLaws.{rest-is}
-use Rattle.state.proofs.Changes.{new-environment, new-history, new-wanted, new-place}
+use Rattle.state.proofs.Changes.{new-environment, new-wanted}
 use Rattle.storing.proofs.StoreLaws.{view-is, set-done, set-full, length-done, length-full}
 use Rattle.moving.specs.Moved.{Comes}
+use Rattle.moving.proofs.Parts.{entry-is, noted-as, placed-is, left-is, lowered-is}
 use Rattle.sending.specs.Sent.{Sends}
 use Rattle.sending.proofs.SendLaws.{send-is, command-is, issue-long}
 use Rattle.running.proofs.GoesOn.{stepped-on}
@@ -102,34 +103,6 @@ unfolding isEmpty
 idle-hand empty e = refl
 idle-hand (byCode b) e = absurd (false≢true e)
 
--- the state after a step, and the card that it is
-module _ (m : State) (c : Card) (is : Is m c) (environment : List ℕ) (t : tidySlots (m .environment) ≡ true → tidySlots environment ≡ true) where
-  noted-as : (bytes : List ℕ) → slots environment ≡ set (slots (m .environment)) 5 (held 3 bytes) → Is (record { page = m .page; len = m .len; environment = environment; temporary = m .temporary; permanent = m .permanent; trail = m .trail; guard = m .guard; hand = m .hand; wanted = m .wanted; unit = m .unit; place = m .place }) (marked bytes c)
-  unfolding marked
-  noted-as bytes e = new-environment m c is environment _ (rw (is .environment) at e) (t (is .tidyEnvironment))
-
-  module _ (e : slots environment ≡ set (slots (m .environment)) 5 (held 3 (0 ∷ 0 ∷ []))) where
-    noted : Is (record { page = m .page; len = m .len; environment = environment; temporary = m .temporary; permanent = m .permanent; trail = m .trail; guard = m .guard; hand = m .hand; wanted = m .wanted; unit = m .unit; place = m .place }) (marked noError c)
-    unfolding noError hex hexTo
-    noted = noted-as (0 ∷ 0 ∷ []) e
-
-    module _ (idle : c .run .hand ≡ empty) where
-      placed-is : (p : ℕ) → Is (record { page = m .page; len = m .len; environment = environment; temporary = m .temporary; permanent = m .permanent; trail = m .trail; guard = m .guard; hand = m .hand; wanted = m .wanted; unit = m .unit; place = p }) (placed (marked noError c) p)
-      unfolding placed marked withEnvironment withRun
-      placed-is p = rw (← is .unit) (new-place _ (marked noError c) noted (m .hand) empty (m .unit) p (is .hand ∙ idle) (is .tidyHeld))
-
-      module _ (ok : judge (c .run .page) ≡ Accepted) (trail : List ℕ) (h : judge (take (m .len) (m .page)) ≡ Accepted → historyOf trail ≡ leftBy (entryFor (take (m .len) (m .page)) (m .unit)) (historyOf (m .trail))) (u : tidyTrail (m .trail) ≡ true → tidyTrail trail ≡ true) where
-        left-is : Is (record { page = m .page; len = m .len; environment = environment; temporary = m .temporary; permanent = m .permanent; trail = trail; guard = m .guard; hand = m .hand; wanted = m .wanted; unit = m .unit; place = m .place }) (leaving (marked noError c))
-        unfolding leaving marked withEnvironment pageOf
-        left-is =
-            let g : historyOf trail ≡ left (c .run .page) (c .run .unit) (c .history) = (rw (is .page, is .unit, is .history) at h) ok ∙ left-by (c .run .page) (c .run .unit) (c .history) in
-            new-history _ (marked noError c) noted trail _ g (u (is .tidyHistory))
-
-        entered-is : (s : List ℕ) → s ≡ take (m .len) (m .page) → (k place : ℕ) → place ≡ entryOf s k → Is (record { page = m .page; len = m .len; environment = environment; temporary = m .temporary; permanent = m .permanent; trail = trail; guard = m .guard; hand = m .hand; wanted = m .wanted; unit = k; place = place }) (entered (leaving (marked noError c)) k)
-        unfolding entered leaving marked withHistory withEnvironment pageOf
-        entered-is s p k place q =
-            rw (← rw (p ∙ is .page) at q) (new-place _ (leaving (marked noError c)) left-is (m .hand) empty k place (is .hand ∙ idle) (is .tidyHeld))
-
 -- the keep rule, and a state at rest
 rest-at : (m : State) (c : Card) → Is m c → judge (c .run .page) ≡ Accepted
     → (temporary : List ℕ) → slots temporary ≡ keptBy (take (m .len) (m .page)) (keepList (take (m .len) (m .page))) (slots (m .temporary)) → (tidySlots (m .temporary) ≡ true → tidySlots temporary ≡ true)
@@ -137,11 +110,6 @@ rest-at : (m : State) (c : Card) → Is m c → judge (c .run .page) ≡ Accepte
     → Is (laid (blank 4096) 0 (m .environment) temporary (m .permanent) (m .trail) guard (blank 257) (m .wanted) 0 0) (rested c)
 rest-at m c is ok temporary kept u guard guarded v =
     rest-is m c is (accepted-password (c .run .page) ok) (blank 4096) temporary guard (blank 257) (take (m .len) (m .page)) refl kept u guarded v refl refl
-
--- a place where a state goes on in a unit, with no command in hand
-entry-is : (m : State) (c : Card) → Is m c → (k place : ℕ) → place ≡ entryOf (take (m .len) (m .page)) k → handOf (m .hand) ≡ empty → Is (record { page = m .page; len = m .len; environment = m .environment; temporary = m .temporary; permanent = m .permanent; trail = m .trail; guard = m .guard; hand = m .hand; wanted = m .wanted; unit = k; place = place }) (entered c k)
-unfolding entered pageOf
-entry-is m c is k place e idle = rw (← (e ∙ ap (λ (s : List ℕ). entryOf s k) (is .page))) (new-place m c is (m .hand) empty k place idle (is .tidyHeld))
 
 -- going back, by the turn that it takes
 turned : Card → Turn → Effect
@@ -246,7 +214,7 @@ module _ (n k : ℕ) (m : State) (w : Counted) (inv : steps (n - k) k (card m) �
         module _ (q : ℕ) (x : way ≡ Place q) where
           placing : Comes (record { state = record { page = m .page; len = m .len; environment = environment; temporary = m .temporary; permanent = m .permanent; trail = m .trail; guard = m .guard; hand = m .hand; wanted = m .wanted; unit = m .unit; place = q }; outcome = On }) (stepped (card m))
           unfolding planOf applied moved
-          placing = rw (stepping (Place q) x) (record { outcome = refl; state = placed-is m (card m) (r .is) environment t a idle q })
+          placing = rw (stepping (Place q) x) (record { outcome = refl; state = placed-is m (card m) (r .is) environment t a q (m .hand) idle-now (r .is .tidyHeld) })
 
           pub place-steps : steps (n - (k + 1)) (k + 1) (card (record { page = m .page; len = m .len; environment = environment; temporary = m .temporary; permanent = m .permanent; trail = m .trail; guard = m .guard; hand = m .hand; wanted = m .wanted; unit = m .unit; place = q })) ≡ w
           place-steps = comes-steps _ On placing refl
@@ -258,7 +226,7 @@ module _ (n k : ℕ) (m : State) (w : Counted) (inv : steps (n - k) k (card m) �
           module _ (u : ℕ) (x : way ≡ Enter u) (s : List ℕ) (p : s ≡ take (m .len) (m .page)) (place : ℕ) (y : place ≡ entryOf s u) where
             entering : Comes (record { state = record { page = m .page; len = m .len; environment = environment; temporary = m .temporary; permanent = m .permanent; trail = trail; guard = m .guard; hand = m .hand; wanted = m .wanted; unit = u; place = place }; outcome = On }) (stepped (card m))
             unfolding planOf applied moved
-            entering = rw (stepping (Enter u) x) (record { outcome = refl; state = entered-is m (card m) (r .is) environment t a idle (r .runs .accepted) trail b v s p u place y })
+            entering = rw (stepping (Enter u) x) (record { outcome = refl; state = entry-is _ _ (left-is m (card m) (r .is) environment t a trail v (r .runs .accepted) b) u place (m .hand) (y ∙ ap (λ (q : List ℕ). entryOf q u) p) idle-now (r .is .tidyHeld) })
 
             pub enter-steps : steps (n - (k + 1)) (k + 1) (card (record { page = m .page; len = m .len; environment = environment; temporary = m .temporary; permanent = m .permanent; trail = trail; guard = m .guard; hand = m .hand; wanted = m .wanted; unit = u; place = place })) ≡ w
             enter-steps = comes-steps _ On entering refl
@@ -274,7 +242,7 @@ module _ (n k : ℕ) (m : State) (w : Counted) (inv : steps (n - k) k (card m) �
             asked : Is (record { page = m .page; len = m .len; environment = environment; temporary = m .temporary; permanent = m .permanent; trail = trail; guard = m .guard; hand = m .hand; wanted = wanted; unit = m .unit; place = m .place }) (withWanted (leaving (marked noError (card m))) (part (card m .run .page) start stop))
             unfolding card runOf pageOf
             asked =
-                new-wanted _ (leaving (marked noError (card m))) (left-is m (card m) (r .is) environment t a idle (r .runs .accepted) trail b v) wanted (part (take (m .len) (m .page)) start stop) (c (rw x at short)) (d (r .is .tidyWant))
+                new-wanted _ (leaving (marked noError (card m))) (left-is m (card m) (r .is) environment t a trail v (r .runs .accepted) b) wanted (part (take (m .len) (m .page)) start stop) (c (rw x at short)) (d (r .is .tidyWant))
 
             departing : Comes (record { state = o; outcome = Wanted }) (stepped (card m))
             unfolding planOf applied moved wanting withWanted leaving withHistory marked withEnvironment
@@ -288,7 +256,7 @@ module _ (n k : ℕ) (m : State) (w : Counted) (inv : steps (n - k) k (card m) �
         module _ (temporary permanent : List ℕ) (i : tidySlots (m .temporary) ≡ true → tidySlots temporary ≡ true) (j : tidyRecords (m .permanent) ≡ true → tidyRecords permanent ≡ true) (b : Bool) (z : b ≡ true) (s : List ℕ) (p : s ≡ take (m .len) (m .page)) where
           written : (stop : ℕ) (d : Card) → Is (record { page = m .page; len = m .len; environment = m .environment; temporary = temporary; permanent = permanent; trail = m .trail; guard = m .guard; hand = m .hand; wanted = m .wanted; unit = m .unit; place = m .place }) d → Comes (record { state = record { page = m .page; len = m .len; environment = environment; temporary = temporary; permanent = permanent; trail = m .trail; guard = m .guard; hand = m .hand; wanted = m .wanted; unit = m .unit; place = stop }; outcome = On }) (moved d (onwards stop))
           unfolding moved
-          written stop d is = record { outcome = refl; state = placed-is _ d is environment t a (sym (is .hand) ∙ (r .is .hand ∙ idle)) stop }
+          written stop d is = record { outcome = refl; state = placed-is _ d is environment t a stop (m .hand) idle-now (r .is .tidyHeld) }
 
           module _ (start stop : ℕ) (x : way ≡ Store start stop) (f : setAll (tlvs 1 s start stop) (view s (m .environment) (m .temporary) (m .permanent)) ≡ cond b (wrote (view s (m .environment) temporary permanent)) noRoom) where
             stored : Comes (record { state = record { page = m .page; len = m .len; environment = environment; temporary = temporary; permanent = permanent; trail = m .trail; guard = m .guard; hand = m .hand; wanted = m .wanted; unit = m .unit; place = stop }; outcome = On }) (stepped (card m))
@@ -314,21 +282,14 @@ module _ (n k : ℕ) (m : State) (w : Counted) (inv : steps (n - k) k (card m) �
 
         -- going back
         module _ (x : way ≡ Back) (turn : Turn) (f : turn ≡ turnOf (take (m .len) (m .page)) (historyOf (m .trail))) where
-          noted-here : Is (record { page = m .page; len = m .len; environment = environment; temporary = m .temporary; permanent = m .permanent; trail = m .trail; guard = m .guard; hand = m .hand; wanted = m .wanted; unit = m .unit; place = m .place }) (marked noError (card m))
-          noted-here = noted m (card m) (r .is) environment t a
-
           turning : (v : Turn) → turn ≡ v → stepped (card m) ≡ turned (marked noError (card m)) v
           unfolding planOf applied moved
           turning v y = stepping Back x ∙ back-is (marked noError (card m)) ∙ ap (turned (marked noError (card m))) (sym (turn-here m turn f) ∙ y)
 
           module _ (trail : List ℕ) (v : tidyTrail (m .trail) ≡ true → tidyTrail trail ≡ true) (g : historyOf trail ≡ lowered (historyOf (m .trail))) where
-            lowered-is : Is (record { page = m .page; len = m .len; environment = environment; temporary = m .temporary; permanent = m .permanent; trail = trail; guard = m .guard; hand = m .hand; wanted = m .wanted; unit = m .unit; place = m .place }) (withHistory (marked noError (card m)) (lowered (card m .history)))
-            unfolding card
-            lowered-is = new-history _ (marked noError (card m)) noted-here trail (lowered (historyOf (m .trail))) g (v (r .is .tidyHistory))
-
             module _ (u : ℕ) (y : turn ≡ Unit u) (s : List ℕ) (p : s ≡ take (m .len) (m .page)) (place : ℕ) (z : place ≡ entryOf s u) where
               returned : Is (record { page = m .page; len = m .len; environment = environment; temporary = m .temporary; permanent = m .permanent; trail = trail; guard = m .guard; hand = m .hand; wanted = m .wanted; unit = u; place = place }) (entered (withHistory (marked noError (card m)) (lowered (card m .history))) u)
-              returned = entry-is _ _ lowered-is u place (z ∙ ap (λ (q : List ℕ). entryOf q u) p) idle-now
+              returned = entry-is _ _ (lowered-is m (card m) (r .is) environment t a trail v g) u place (m .hand) (z ∙ ap (λ (q : List ℕ). entryOf q u) p) idle-now (r .is .tidyHeld)
 
               returning : Comes (record { state = record { page = m .page; len = m .len; environment = environment; temporary = m .temporary; permanent = m .permanent; trail = trail; guard = m .guard; hand = m .hand; wanted = m .wanted; unit = u; place = place }; outcome = On }) (stepped (card m))
               unfolding turned marked withEnvironment
@@ -356,7 +317,7 @@ module _ (n k : ℕ) (m : State) (w : Counted) (inv : steps (n - k) k (card m) �
               rw (turning a x turn f Page y)
               (record {
                 outcome = refl;
-                state = rests _ (new-wanted _ _ (lowered-is a x turn f trail i g) wanted (last (historyOf (m .trail))) (c (last-short m r turn f y)) (d (r .is .tidyWant))) (r .runs .accepted);
+                state = rests _ (new-wanted _ _ (lowered-is m (card m) (r .is) environment t a trail i g) wanted (last (historyOf (m .trail))) (c (last-short m r turn f y)) (d (r .is .tidyWant))) (r .runs .accepted);
               })
 
           pub fetch-counts : Counts (record { state = o; ran = record { outcome = Wanted; count = k + 1 } }) before before w

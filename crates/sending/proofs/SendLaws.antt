@@ -19,7 +19,7 @@ use Rattle.rules.specs.declared.Refusal.{Refusal}
 use Rattle.rules.specs.declared.Refusal.the-variants.{Memory}
 use Rattle.rules.specs.Bytes.{part}
 use Rattle.rules.specs.Loader.{judge}
-use Rattle.rules.specs.Card.{Card, withRun, inHand}
+use Rattle.rules.specs.Card.{Card, byCode, withRun, inHand}
 use Rattle.rules.specs.Command.{executeOf, command}
 use Rattle.rules.specs.Step.{refuses, does, applied, moved, send, sending}
 use Rattle.rules.specs.Calls.{over, bufferAfter}
@@ -29,7 +29,8 @@ use Rattle.command.proofs.Bare.{bare-command}
 use Rattle.word.specs.Word.{laidMarked}
 use Rattle.word.proofs.Parts.{hand-laid, laid-hand}
 use Rattle.state.specs.declared.State.{State}
-use Rattle.state.specs.State.{Is, pageOf}
+use Rattle.state.specs.State.{Is}
+use Rattle.state.proofs.Changes.{new-place}
 use Rattle.moving.specs.declared.Moved.{Moved}
 use Rattle.moving.specs.Moved.{Comes}
 use Rattle.setting.proofs.ComplaintLaws.{part-start}
@@ -47,33 +48,10 @@ text-is s env temp perm tag start stop n e h b bytes w g i =
 module _ (m : State) (c : Card) (is : Is m c) where
   pub send-is : (w hand before after : List ℕ) → length w ≤ 255 → hand ≡ laidMarked 257 w → after ≡ poured before 0 w
       → Sends (record { state = record { page = m .page; len = m .len; environment = m .environment; temporary = m .temporary; permanent = m .permanent; trail = m .trail; guard = m .guard; hand = hand; wanted = m .wanted; unit = m .unit; place = m .place }; outcome = Command (length w) }) before after (moved c (send w))
-  unfolding moved sending withRun bufferAfter inHand over poured pageOf
+  unfolding moved sending withRun bufferAfter inHand over poured
   send-is w hand before after l h e =
       record {
-        comes = record {
-          outcome = refl;
-          state =
-              record {
-                environment = is .environment;
-                temporary = is .temporary;
-                permanent = is .permanent;
-                guard = is .guard;
-                history = is .history;
-                page = is .page;
-                unit = is .unit;
-                place = is .place;
-                hand = rw h (hand-laid w l);
-                wanted = is .wanted;
-                tidyEnvironment = is .tidyEnvironment;
-                tidyTemporary = is .tidyTemporary;
-                tidyPermanent = is .tidyPermanent;
-                tidyGuarded = is .tidyGuarded;
-                tidyHistory = is .tidyHistory;
-                tidyRun = is .tidyRun;
-                tidyHeld = rw h (laid-hand w l);
-                tidyWant = is .tidyWant;
-              };
-        };
+        comes = record { outcome = refl; state = rw (← is .unit, ← is .place) (new-place m c is hand (byCode w) (m .unit) (m .place) (rw h (hand-laid w l)) (rw h (laid-hand w l))) };
         buffer = e;
       }
 

@@ -5,7 +5,7 @@ use mathlib.Core.Bool.{true}
 use mathlib.Core.List.{List}
 use mathlib.Core.Path.{_≡_, refl}
 use lib.ListN.{take}
-use Rattle.rules.specs.Card.{Slot, Record, Guard, History, Hand, Card, withEnvironment, withTemporary, withPermanent, withGuard, withHistory, withRun, withWanted}
+use Rattle.rules.specs.Card.{Slot, Record, Guard, History, Hand, Run, Card, withEnvironment, withTemporary, withPermanent, withGuard, withHistory, withRun, withWanted}
 use Rattle.slots.specs.Slots.{slots, tidySlots}
 use Rattle.records.specs.Records.{records, tidyRecords}
 use Rattle.trail.specs.Trail.{historyOf, tidyTrail}
@@ -158,27 +158,31 @@ module _ (m : State) (c : Card) (is : Is m c) where
         tidyWant = t;
       }
 
-  -- another place of the page, with another command in hand or none
-  pub new-place : (hand : List ℕ) (x : Hand) (unit place : ℕ) → handOf hand ≡ x → tidyHand hand ≡ true → Is (record { page = m .page; len = m .len; environment = m .environment; temporary = m .temporary; permanent = m .permanent; trail = m .trail; guard = m .guard; hand = hand; wanted = m .wanted; unit = unit; place = place }) (withRun c (record { page = c .run .page; unit = unit; place = place; hand = x }))
+  pub new-run : (page : List ℕ) (len : ℕ) (hand : List ℕ) (x : Run) → take len page ≡ x .page → handOf hand ≡ x .hand → tidyPage page len ≡ true → tidyHand hand ≡ true → Is (record { page = page; len = len; environment = m .environment; temporary = m .temporary; permanent = m .permanent; trail = m .trail; guard = m .guard; hand = hand; wanted = m .wanted; unit = x .unit; place = x .place }) (withRun c x)
   unfolding withRun pageOf
-  new-place hand x unit place e t =
+  new-run page len hand x e f t u =
       record {
         environment = is .environment;
         temporary = is .temporary;
         permanent = is .permanent;
         guard = is .guard;
         history = is .history;
-        page = is .page;
+        page = e;
         unit = refl;
         place = refl;
-        hand = e;
+        hand = f;
         wanted = is .wanted;
         tidyEnvironment = is .tidyEnvironment;
         tidyTemporary = is .tidyTemporary;
         tidyPermanent = is .tidyPermanent;
         tidyGuarded = is .tidyGuarded;
         tidyHistory = is .tidyHistory;
-        tidyRun = is .tidyRun;
-        tidyHeld = t;
+        tidyRun = t;
+        tidyHeld = u;
         tidyWant = is .tidyWant;
       }
+
+  -- another place of the page, with another command in hand or none
+  pub new-place : (hand : List ℕ) (x : Hand) (unit place : ℕ) → handOf hand ≡ x → tidyHand hand ≡ true → Is (record { page = m .page; len = m .len; environment = m .environment; temporary = m .temporary; permanent = m .permanent; trail = m .trail; guard = m .guard; hand = hand; wanted = m .wanted; unit = unit; place = place }) (withRun c (record { page = c .run .page; unit = unit; place = place; hand = x }))
+  unfolding pageOf
+  new-place hand x unit place e t = new-run (m .page) (m .len) hand (record { page = c .run .page; unit = unit; place = place; hand = x }) (is .page) e (is .tidyRun) t

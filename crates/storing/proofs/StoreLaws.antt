@@ -14,7 +14,7 @@ use Rattle.rules.specs.Tlvs.{Tlvs, done, past, tlv, tlvs}
 use Rattle.rules.specs.Pieces.{named}
 use Rattle.rules.specs.Loader.{judge}
 use Rattle.rules.specs.Page.{service}
-use Rattle.rules.specs.Card.{Card}
+use Rattle.rules.specs.Card.{Card, withTemporary, withPermanent}
 use Rattle.rules.specs.Store.{area, writing, writingIn, worse, Written, wrote, noRoom, write}
 use Rattle.rules.specs.Value.{piecesOf, complaint, joined, shortest}
 use Rattle.rules.specs.Step.{refuses, applied, moved, Move, onwards, storing, numberBefore, settingComplaint, setAll}
@@ -26,6 +26,7 @@ use Rattle.value.proofs.Bare.{bare-complaint, bare-joined}
 use Rattle.piece.specs.Piece.{piecesFrom}
 use Rattle.state.specs.declared.State.{State}
 use Rattle.state.specs.State.{Is, pageOf}
+use Rattle.state.proofs.Changes.{new-temporary, new-permanent}
 use Rattle.moving.specs.declared.Moved.{Moved}
 use Rattle.moving.specs.Moved.{Comes}
 use Rattle.storing.proofs.Lift.{lift, write-lift, setAll-lift}
@@ -48,28 +49,8 @@ module _ (m : State) (c : Card) (is : Is m c) (s : List ℕ) (p : s ≡ take (m 
 
   module _ (t q : List ℕ) (i : tidySlots (m .temporary) ≡ true → tidySlots t ≡ true) (j : tidyRecords (m .permanent) ≡ true → tidyRecords q ≡ true) where
     pub stored-is : Is (record { page = m .page; len = m .len; environment = m .environment; temporary = t; permanent = q; trail = m .trail; guard = m .guard; hand = m .hand; wanted = m .wanted; unit = m .unit; place = m .place }) (over c (records q) (slots t))
-    unfolding pageOf
-    stored-is =
-        record {
-          environment = is .environment;
-          temporary = refl;
-          permanent = refl;
-          guard = is .guard;
-          history = is .history;
-          page = is .page;
-          unit = is .unit;
-          place = is .place;
-          hand = is .hand;
-          wanted = is .wanted;
-          tidyEnvironment = is .tidyEnvironment;
-          tidyTemporary = i (is .tidyTemporary);
-          tidyPermanent = j (is .tidyPermanent);
-          tidyGuarded = is .tidyGuarded;
-          tidyHistory = is .tidyHistory;
-          tidyRun = is .tidyRun;
-          tidyHeld = is .tidyHeld;
-          tidyWant = is .tidyWant;
-        }
+    unfolding withTemporary withPermanent
+    stored-is = new-permanent _ _ (new-temporary m c is t (slots t) refl (i (is .tidyTemporary))) q (records q) refl (j (is .tidyPermanent))
 
     -- a write that went well is done on the card, and one that did not leaves it to be refused
     stores : (move : Move) (w v : Written) (b : Bool) → w ≡ lift c v → v ≡ cond b (wrote (view s (m .environment) t q)) noRoom → b ≡ true → (o : Moved)

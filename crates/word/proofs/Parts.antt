@@ -12,8 +12,8 @@ use Rattle.pour.specs.Pour.{blank}
 use Rattle.pour.proofs.PadLaws.{zeros-blank}
 use Rattle.pour.proofs.StrideLaws.{all-first, all-rest}
 use Rattle.rules.specs.Card.{unlocked, locked, empty, byCode}
-use Rattle.word.specs.Word.{laidWord, laidMarked, wordIn, isMarked, guardOf, handOf, tidyWord, tidyMarked, tidyGuard, tidyHand, tidyWanted}
-use Rattle.word.proofs.Same.{length-laid, tidy-laid, word-laid, marked-laid, behind-laid, tidy-marked, length-marked}
+use Rattle.word.specs.Word.{laidWord, laidMarked, isMarked, guardOf, handOf, tidyWord, tidyMarked, tidyGuard, tidyHand, tidyWanted}
+use Rattle.word.proofs.Same.{length-laid, tidy-laid, marked-laid, behind-laid, tidy-marked, length-marked}
 
 module _ (p : List ℕ) where
   pub guard-marked : tidyGuard p ≡ true → tidyMarked p ≡ true
