@@ -27,10 +27,10 @@ use Rattle.state.specs.State.{Is, card, cardOf}
 use Rattle.state.proofs.Canonical.{is-card}
 use Rattle.sending.specs.Sent.{Sends}
 use Rattle.machine.specs.declared.Machine.{Machine}
-use Rattle.running.specs.declared.Course.{Course}
+use Rattle.parts.specs.declared.Course.{Course}
 use Rattle.machine.specs.declared.Gone.{Gone}
 use Rattle.machine.specs.Meets.{Meets}
-use Rattle.running.specs.Course.{Ready, Counts}
+use Rattle.course.specs.Course.{Ready, Counts}
 use Rattle.machine.proofs.Parts.{sound-is, ready-is, runs-fine, ready-runs, ready-empty}
 use Rattle.machine.proofs.CallLaws.{same-meets, step-taken}
 

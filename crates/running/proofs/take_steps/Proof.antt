@@ -6,9 +6,10 @@ use mathlib.Core.Path.{_≡_, refl, ap}
 use lib.ListN.{length}
 use Rattle.rules.specs.Calls.{steps}
 use Rattle.state.specs.State.{card}
-use Rattle.running.specs.Course.{Ready, laid}
-use Rattle.running.proofs.PartLaws.{kept-is, guarded-is}
-use Rattle.running.proofs.RunLaws.{run-out, place-steps, place-ready, enter-steps, enter-ready, store-steps, store-ready, length-steps, length-ready, back-steps, back-ready, end-counts, refuse-counts, away-counts, nowhere-counts, fetch-counts, store-full, count-full, send-full, send-counts, store-ordered, store-within, send-ordered, send-within, length-within, served, loop-laws}
+use Rattle.parts.specs.Parts.{laid}
+use Rattle.course.specs.Course.{Ready}
+use Rattle.parts.proofs.PartLaws.{kept-is, guarded-is}
+use Rattle.course.proofs.RunLaws.{run-out, place-steps, place-ready, enter-steps, enter-ready, store-steps, store-ready, length-steps, length-ready, back-steps, back-ready, end-counts, refuse-counts, away-counts, nowhere-counts, fetch-counts, store-full, count-full, send-full, send-counts, store-ordered, store-within, send-ordered, send-within, length-within, served, loop-laws}
 use borrow.Author.Needs.{needs}
 use Rattle.running.proofs.take_steps.Statement.{statement}
 use Rattle.running.proofs.take_steps.Tie as tie

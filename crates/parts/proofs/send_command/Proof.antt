@@ -1,6 +1,6 @@
--- `running::send_command` meets its contract.
+-- `parts::send_command` meets its contract.
 -- Assumes nothing.
-use Rattle.running.proofs.PartLaws.{command-length, command-held, command-out, not-long}
+use Rattle.parts.proofs.PartLaws.{command-length, command-held, command-out, not-long}
 use Rattle.sending.proofs.SendLaws.{command-fits, command-bounds}
 use Rattle.storing.proofs.StoreLaws.{bound-laws}
 use native.Mathlib.Omega.{arith}
@@ -8,8 +8,8 @@ use Prim.Native.Nat.{_≤_}
 use mathlib.Core.Path.{refl}
 use lib.ListN.{length}
 use borrow.Author.Needs.{needs}
-use Rattle.running.proofs.send_command.Statement.{statement}
-use Rattle.running.proofs.send_command.Tie as tie
+use Rattle.parts.proofs.send_command.Statement.{statement}
+use Rattle.parts.proofs.send_command.Tie as tie
 
 page-of-requires : tie.Need-page-of-requires
 page-of-requires c κs = search needs

@@ -1,10 +1,10 @@
--- `running::turn_back` meets its contract.
+-- `parts::turn_back` meets its contract.
 -- Assumes nothing.
 use mathlib.Core.Path.{refl}
-use Rattle.running.proofs.PartLaws.{turn-none, turn-is, turn-not-nowhere, turn-wanted, nowhere-not-unit, nowhere-not-page}
+use Rattle.parts.proofs.PartLaws.{turn-none, turn-is, turn-not-nowhere, turn-wanted, nowhere-not-unit, nowhere-not-page}
 use borrow.Author.Needs.{needs}
-use Rattle.running.proofs.turn_back.Statement.{statement}
-use Rattle.running.proofs.turn_back.Tie as tie
+use Rattle.parts.proofs.turn_back.Statement.{statement}
+use Rattle.parts.proofs.turn_back.Tie as tie
 
 pointer-of-requires : tie.Need-pointer-of-requires
 pointer-of-requires c κs = search needs

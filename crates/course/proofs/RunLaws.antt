@@ -51,17 +51,18 @@ use Rattle.moving.specs.Moved.{Comes}
 use Rattle.moving.proofs.Parts.{entry-is, noted-as, placed-is, left-is, lowered-is}
 use Rattle.sending.specs.Sent.{Sends}
 use Rattle.sending.proofs.SendLaws.{send-is, command-is, issue-long}
-use Rattle.running.proofs.GoesOn.{stepped-on}
+use Rattle.course.proofs.GoesOn.{stepped-on}
 use Rattle.ways.specs.declared.Way.{Way}
 use Rattle.ways.specs.declared.Way.the-variants.{Enter, Place, End, Refuse, Away, Back, Store, Length, Send}
 use Rattle.ways.specs.Way.{wayAt, issued, planOf, Inside, Short}
 use Rattle.ways.proofs.Steps.{way-same, way-plan}
 use Rattle.ways.proofs.Bounds.{way-inside}
 use Rattle.ways.proofs.Short.{way-short}
-use Rattle.running.specs.declared.Turn.{Turn}
-use Rattle.running.specs.declared.Turn.the-variants.{Nowhere, Unit, Page}
-use Rattle.running.specs.Course.{laid, commandOf, turnTo, turnOf, Ready, Counts}
-use Rattle.running.proofs.PartLaws.{nowhere-not-page}
+use Rattle.parts.specs.declared.Turn.{Turn}
+use Rattle.parts.specs.declared.Turn.the-variants.{Nowhere, Unit, Page}
+use Rattle.parts.specs.Parts.{laid, commandOf, turnTo, turnOf}
+use Rattle.course.specs.Course.{Ready, Counts}
+use Rattle.parts.proofs.PartLaws.{nowhere-not-page}
 
 pub ready-served : (m : State) → Ready m → length (service (take (m .len) (m .page))) ≤ 16
 unfolding card runOf pageOf

@@ -1,9 +1,9 @@
--- `running::note_end` meets its contract.
+-- `parts::note_end` meets its contract.
 -- Assumes nothing.
-use Rattle.running.proofs.PartLaws.{note-laws}
+use Rattle.parts.proofs.PartLaws.{note-laws}
 use borrow.Author.Needs.{needs}
-use Rattle.running.proofs.note_end.Statement.{statement}
-use Rattle.running.proofs.note_end.Tie as tie
+use Rattle.parts.proofs.note_end.Statement.{statement}
+use Rattle.parts.proofs.note_end.Tie as tie
 
 note-requires : tie.Need-note-requires
 note-requires c κs = search needs

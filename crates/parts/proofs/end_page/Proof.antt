@@ -1,9 +1,9 @@
--- `running::end_page` meets its contract.
+-- `parts::end_page` meets its contract.
 -- Assumes nothing.
 use mathlib.Core.Path.{refl}
 use borrow.Author.Needs.{needs}
-use Rattle.running.proofs.end_page.Statement.{statement}
-use Rattle.running.proofs.end_page.Tie as tie
+use Rattle.parts.proofs.end_page.Statement.{statement}
+use Rattle.parts.proofs.end_page.Tie as tie
 
 keep-temporary-requires : tie.Need-keep-temporary-requires
 keep-temporary-requires c κs = search needs

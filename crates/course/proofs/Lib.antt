@@ -1,3 +1,2 @@
 pub mod GoesOn
-pub mod PartLaws
 pub mod RunLaws

@@ -1,36 +1,18 @@
--- A run of steps, past the tests of 32, 35 and 33.
+-- A state by its parts, and what is found on them.
 use Prim.Native.Nat.{ℕ}
-use mathlib.Core.Bool.{true, cond}
-use mathlib.Core.Path.{_≡_}
+use mathlib.Core.Bool.{cond}
 use mathlib.Core.List.{List}
 use lib.Dec.{eqb}
 use Rattle.rules.specs.declared.Target.{Target}
 use Rattle.rules.specs.declared.Target.the-variants.{Unit as OwnUnit, Lacking, Other}
 use Rattle.rules.specs.Reference.{target}
-use Rattle.rules.specs.Card.{History, isEmpty}
+use Rattle.rules.specs.Card.{History}
 use Rattle.rules.specs.Trail.{last}
 use Rattle.rules.specs.Command.{executeOf, command}
-use Rattle.rules.specs.Calls.{bufferAfter, Counted}
-use Rattle.rules.proofs.StaysCardStep.{Running}
 use Rattle.variable.specs.View.{view}
 use Rattle.state.specs.declared.State.{State}
-use Rattle.state.specs.State.{Is, card}
-use Rattle.running.specs.declared.Course.{Course}
-use Rattle.running.specs.declared.Turn.{Turn}
-use Rattle.running.specs.declared.Turn.the-variants.{Nowhere, Unit, Page}
-
--- a page runs and awaits no response
-pub record Ready (m : State) : Type 0 where
-  pub is : Is m (card m)
-  pub runs : Running (card m)
-  pub idle : isEmpty (card m .run .hand) ≡ true
-
--- what a run comes to, with the lent buffer before and after it
-pub record Counts (r : Course) (before after : List ℕ) (k : Counted) : Type 0 where
-  pub outcome : r .ran .outcome ≡ k .last .outcome
-  pub count : r .ran .count ≡ k .count
-  pub state : Is (r .state) (k .last .card)
-  pub buffer : after ≡ bufferAfter before (k .last .card) (k .last .outcome)
+use Rattle.parts.specs.declared.Turn.{Turn}
+use Rattle.parts.specs.declared.Turn.the-variants.{Nowhere, Unit, Page}
 
 -- a state by its parts
 abbrev pub laid : (page : List ℕ) (len : ℕ) (environment temporary permanent trail guard hand wanted : List ℕ) (unit place : ℕ) → State

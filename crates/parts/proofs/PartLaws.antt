@@ -1,4 +1,4 @@
--- What the small functions of a run need.
+-- What the functions on the parts need.
 -- Assumes nothing.
 use Prim.Native.Nat.{ℕ, _≤_, _<_}
 use mathlib.Core.Bool.{Bool, true, false, cond}
@@ -23,9 +23,9 @@ use Rattle.slots.specs.Slots.{slots}
 use Rattle.word.specs.Word.{laidMarked, wordIn, guardOf}
 use Rattle.value.specs.Into.{into}
 use Rattle.sending.proofs.SendLaws.{text-is}
-use Rattle.running.specs.declared.Turn.{Turn}
-use Rattle.running.specs.declared.Turn.the-variants.{Nowhere, Unit, Page}
-use Rattle.running.specs.Course.{commandOf, turnTo, turnOf}
+use Rattle.parts.specs.declared.Turn.{Turn}
+use Rattle.parts.specs.declared.Turn.the-variants.{Nowhere, Unit, Page}
+use Rattle.parts.specs.Parts.{commandOf, turnTo, turnOf}
 use Rattle.trail.specs.Trail.{historyOf}
 use Rattle.leaving.specs.Leaving.{entryFor, leftBy}
 

@@ -1,10 +1,10 @@
--- `running::turn_to` meets its contract.
+-- `parts::turn_to` meets its contract.
 -- Assumes nothing.
 use mathlib.Core.Path.{refl}
-use Rattle.running.proofs.PartLaws.{turn-unit, turn-lacking, turn-other, unit-not-page, page-not-unit}
+use Rattle.parts.proofs.PartLaws.{turn-unit, turn-lacking, turn-other, unit-not-page, page-not-unit}
 use borrow.Author.Needs.{needs}
-use Rattle.running.proofs.turn_to.Statement.{statement}
-use Rattle.running.proofs.turn_to.Tie as tie
+use Rattle.parts.proofs.turn_to.Statement.{statement}
+use Rattle.parts.proofs.turn_to.Tie as tie
 
 page-of-requires : tie.Need-page-of-requires
 page-of-requires c κs = search needs

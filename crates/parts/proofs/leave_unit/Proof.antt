@@ -1,9 +1,9 @@
--- `running::leave_unit` meets its contract.
+-- `parts::leave_unit` meets its contract.
 -- Assumes nothing.
-use Rattle.running.proofs.PartLaws.{left-is}
+use Rattle.parts.proofs.PartLaws.{left-is}
 use borrow.Author.Needs.{needs}
-use Rattle.running.proofs.leave_unit.Statement.{statement}
-use Rattle.running.proofs.leave_unit.Tie as tie
+use Rattle.parts.proofs.leave_unit.Statement.{statement}
+use Rattle.parts.proofs.leave_unit.Tie as tie
 
 page-of-requires : tie.Need-page-of-requires
 page-of-requires c κs = search needs

@@ -1,9 +1,9 @@
--- `running::want_from` meets its contract.
+-- `parts::want_from` meets its contract.
 -- Assumes nothing.
-use Rattle.running.proofs.PartLaws.{want-part}
+use Rattle.parts.proofs.PartLaws.{want-part}
 use borrow.Author.Needs.{needs}
-use Rattle.running.proofs.want_from.Statement.{statement}
-use Rattle.running.proofs.want_from.Tie as tie
+use Rattle.parts.proofs.want_from.Statement.{statement}
+use Rattle.parts.proofs.want_from.Tie as tie
 
 page-of-requires : tie.Need-page-of-requires
 page-of-requires c κs = search needs

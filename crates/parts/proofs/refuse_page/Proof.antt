@@ -1,8 +1,8 @@
--- `running::refuse_page` meets its contract.
+-- `parts::refuse_page` meets its contract.
 -- Assumes nothing.
 use borrow.Author.Needs.{needs}
-use Rattle.running.proofs.refuse_page.Statement.{statement}
-use Rattle.running.proofs.refuse_page.Tie as tie
+use Rattle.parts.proofs.refuse_page.Statement.{statement}
+use Rattle.parts.proofs.refuse_page.Tie as tie
 
 note-refusal-requires : tie.Need-note-refusal-requires
 note-refusal-requires c κs = search needs

@@ -1,0 +1,1 @@
+// What a run of steps comes to: definitions and laws, no code.
