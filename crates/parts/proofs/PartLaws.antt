@@ -13,7 +13,13 @@ use Rattle.rules.specs.declared.Target.{Target}
 use Rattle.rules.specs.declared.Target.the-variants.{Unit as OwnUnit, Lacking, Other}
 use Rattle.rules.specs.Bytes.{part}
 use Rattle.rules.specs.Loader.{judge}
-use Rattle.rules.specs.Page.{keepList, password, bytesOf}
+use Rattle.rules.specs.Tlvs.{tlvs}
+use Rattle.rules.specs.Pieces.{named}
+use Rattle.rules.specs.Page.{keepList, password, bytesOf, entryOf}
+use Rattle.rules.specs.Store.{wrote, noRoom, write}
+use Rattle.rules.specs.Value.{joined, shortest}
+use Rattle.rules.specs.Step.{setAll}
+use Rattle.variable.specs.View.{view}
 use Rattle.rules.specs.Keep.{keptBy, guardBy}
 use Rattle.rules.specs.Reference.{target}
 use Rattle.rules.specs.Card.{History, held}
@@ -125,3 +131,15 @@ module _ (page : List ℕ) (h : History) (n : ℕ) (e : n ≡ h .pointer) where
 
     pub turn-wanted : (after : List ℕ) → (r ≡ Page → length entry ≤ 65 → wordIn after ≡ entry) → (r ≡ Page → length (last h) ≤ 65 → wordIn after ≡ last h)
     turn-wanted after k y l = k y (rw f l) ∙ f
+
+-- the page as it is lent
+module _ (s page : List ℕ) (e : s ≡ page) where
+  pub entry-lent : (k n : ℕ) → n ≡ entryOf s k → n ≡ entryOf page k
+  entry-lent k n x = x ∙ ap (λ (q : List ℕ). entryOf q k) e
+
+  pub set-lent : (env temp perm temp′ perm′ : List ℕ) (start stop : ℕ) (b : Bool) → setAll (tlvs 1 s start stop) (view s env temp perm) ≡ cond b (wrote (view s env temp′ perm′)) noRoom → setAll (tlvs 1 page start stop) (view page env temp perm) ≡ cond b (wrote (view page env temp′ perm′)) noRoom
+  set-lent env temp perm temp′ perm′ start stop b x = rw (← e) x
+
+  pub length-lent : (env temp perm temp′ perm′ : List ℕ) (n from to : ℕ) (b : Bool) → write (view s env temp perm) n 3 (shortest (length (joined (view s env temp perm) (named (part s from to))))) ≡ cond b (wrote (view s env temp′ perm′)) noRoom
+      → write (view page env temp perm) n 3 (shortest (length (joined (view page env temp perm) (named (part page from to))))) ≡ cond b (wrote (view page env temp′ perm′)) noRoom
+  length-lent env temp perm temp′ perm′ n from to b x = rw (← e) x

@@ -5,7 +5,7 @@ use rules::Refusal;
 use rules::Target;
 use state::State;
 ghost use mathlib.Core.Path.{_≡_};
-ghost use mathlib.Core.Bool.{true, cond};
+ghost use mathlib.Core.Bool.{true, false, cond};
 ghost use mathlib.Core.List.{_∷_, []};
 ghost use Prim.Native.Nat.{ℕ, _≤_, _<_};
 ghost use lib.ListN.{length, take, set};
@@ -14,7 +14,14 @@ ghost use Rattle.rules.specs.declared.Outcome.the-variants.{Refused};
 ghost use Rattle.rules.specs.Numbers.{code};
 ghost use Rattle.rules.specs.Bytes.{part};
 ghost use Rattle.rules.specs.Loader.{judge};
-ghost use Rattle.rules.specs.Page.{keepList, password, bytesOf};
+ghost use Rattle.rules.specs.Tlvs.{tlvs};
+ghost use Rattle.rules.specs.Pieces.{named};
+ghost use Rattle.rules.specs.Page.{keepList, password, bytesOf, service, entryOf};
+ghost use Rattle.rules.specs.Store.{wrote, noRoom, write};
+ghost use Rattle.rules.specs.Value.{joined, shortest};
+ghost use Rattle.rules.specs.Step.{setAll};
+ghost use Rattle.variable.specs.View.{view};
+ghost use Rattle.records.specs.Records.{tidyRecords};
 ghost use Rattle.rules.specs.Card.{held};
 ghost use Rattle.rules.specs.Keep.{keptBy, guardBy};
 ghost use Rattle.rules.specs.Reference.{target};
@@ -68,18 +75,20 @@ pub fn end_page<'a>(
     trail: &'a [u8; 1058],
     guard: &mut [u8; 18],
     wanted: &'a [u8; 66],
-    page: &'a [u8],
+    page: &'a [u8; 4096],
+    len: usize,
     outcome: Outcome,
     count: usize,
 ) -> Course
     ensures { λ r. ⌜ r ≡ record { state = laid (blank 4096) 0 (now (environment .entry)) (now (temporary .exit)) (now (permanent .entry)) (now (trail .entry)) (now (guard .exit)) (blank 257) (now (wanted .entry)) 0 0; ran = record { outcome = outcome; count = count } } ⌝ }
-    ensures { λ _. ⌜ slots (now (temporary .exit)) ≡ keptBy (now (page .entry)) (keepList (now (page .entry))) (slots (now (temporary .entry))) ⌝ }
+    ensures { λ _. ⌜ slots (now (temporary .exit)) ≡ keptBy (take len (now (page .entry))) (keepList (take len (now (page .entry)))) (slots (now (temporary .entry))) ⌝ }
     ensures { λ _. ⌜ (tidySlots (now (temporary .entry)) ≡ true → tidySlots (now (temporary .exit)) ≡ true) ⌝ }
-    ensures { λ _. ⌜ (length (bytesOf (now (page .entry)) (password (now (page .entry)))) ≤ 16 → guardOf (now (guard .exit)) ≡ guardBy (now (page .entry)) (password (now (page .entry)))) ⌝ }
+    ensures { λ _. ⌜ (length (bytesOf (take len (now (page .entry))) (password (take len (now (page .entry))))) ≤ 16 → guardOf (now (guard .exit)) ≡ guardBy (take len (now (page .entry))) (password (take len (now (page .entry))))) ⌝ }
     ensures { λ _. ⌜ (tidyGuard (now (guard .entry)) ≡ true → tidyGuard (now (guard .exit)) ≡ true) ⌝ }
 {
-    keep::keep_temporary(temporary, page);
-    keep::keep_guard(guard, page);
+    let lent = state::page_of(page, len);
+    keep::keep_temporary(temporary, lent);
+    keep::keep_guard(guard, lent);
     Course {
         state: State {
             page: [0; 4096],
@@ -144,14 +153,15 @@ pub fn refuse_page<'a>(
     trail: &'a [u8; 1058],
     guard: &mut [u8; 18],
     wanted: &'a [u8; 66],
-    page: &'a [u8],
+    page: &'a [u8; 4096],
+    len: usize,
     why: Refusal,
     count: usize,
 ) -> Course
     ensures { λ r. ⌜ r ≡ record { state = laid (blank 4096) 0 (now (environment .exit)) (now (temporary .exit)) (now (permanent .entry)) (now (trail .entry)) (now (guard .exit)) (blank 257) (now (wanted .entry)) 0 0; ran = record { outcome = Refused why; count = count } } ⌝ }
-    ensures { λ _. ⌜ slots (now (temporary .exit)) ≡ keptBy (now (page .entry)) (keepList (now (page .entry))) (slots (now (temporary .entry))) ⌝ }
+    ensures { λ _. ⌜ slots (now (temporary .exit)) ≡ keptBy (take len (now (page .entry))) (keepList (take len (now (page .entry)))) (slots (now (temporary .entry))) ⌝ }
     ensures { λ _. ⌜ (tidySlots (now (temporary .entry)) ≡ true → tidySlots (now (temporary .exit)) ≡ true) ⌝ }
-    ensures { λ _. ⌜ (length (bytesOf (now (page .entry)) (password (now (page .entry)))) ≤ 16 → guardOf (now (guard .exit)) ≡ guardBy (now (page .entry)) (password (now (page .entry)))) ⌝ }
+    ensures { λ _. ⌜ (length (bytesOf (take len (now (page .entry))) (password (take len (now (page .entry))))) ≤ 16 → guardOf (now (guard .exit)) ≡ guardBy (take len (now (page .entry))) (password (take len (now (page .entry))))) ⌝ }
     ensures { λ _. ⌜ (tidyGuard (now (guard .entry)) ≡ true → tidyGuard (now (guard .exit)) ≡ true) ⌝ }
     ensures { λ _. ⌜ slots (now (environment .exit)) ≡ set (slots (now (environment .entry))) 5 (held 3 (code why)) ⌝ }
     ensures { λ _. ⌜ (tidySlots (now (environment .entry)) ≡ true → tidySlots (now (environment .exit)) ≡ true) ⌝ }
@@ -165,6 +175,7 @@ pub fn refuse_page<'a>(
         guard,
         wanted,
         page,
+        len,
         Outcome::Refused(why),
         count,
     )
@@ -223,4 +234,50 @@ pub fn turn_back(
     let entry = trail::last_entry(&before);
     trail::lower(trail);
     turn_to(wanted, page, len, entry)
+}
+
+// The first byte code of a unit.
+pub fn entry_at(page: &[u8; 4096], len: usize, k: usize) -> usize
+    ensures { λ r. ⌜ r ≡ entryOf (take len (now (page .entry))) k ⌝ }
+{
+    unit::entry_of(state::page_of(page, len), k)
+}
+
+// The pairs of a Set Variable, all or none.
+pub fn set_all<'a>(
+    page: &'a [u8; 4096],
+    len: usize,
+    env: &'a [u8; 16640],
+    temp: &mut [u8; 16640],
+    perm: &mut [u8; 17920],
+    start: usize,
+    stop: usize,
+) -> bool
+    requires { ⌜ (start ≤ stop) × (stop ≤ length (take len (now page))) × (length (service (take len (now page))) ≤ 16) ⌝ }
+    ensures { λ r. ⌜ setAll (tlvs 1 (take len (now (page .entry))) start stop) (view (take len (now (page .entry))) (now (env .entry)) (now (temp .entry)) (now (perm .entry))) ≡ cond r (wrote (view (take len (now (page .entry))) (now (env .entry)) (now (temp .exit)) (now (perm .exit)))) noRoom ⌝ }
+    ensures { λ r. ⌜ (r ≡ false → (now (temp .exit) ≡ now (temp .entry)) × (now (perm .exit) ≡ now (perm .entry))) ⌝ }
+    ensures { λ _. ⌜ (tidySlots (now (temp .entry)) ≡ true → tidySlots (now (temp .exit)) ≡ true) ⌝ }
+    ensures { λ _. ⌜ (tidyRecords (now (perm .entry)) ≡ true → tidyRecords (now (perm .exit)) ≡ true) ⌝ }
+{
+    whole::set_all(state::page_of(page, len), env, temp, perm, start, stop)
+}
+
+// The length of a list, stored or not.
+pub fn set_length<'a>(
+    page: &'a [u8; 4096],
+    len: usize,
+    env: &'a [u8; 16640],
+    temp: &mut [u8; 16640],
+    perm: &mut [u8; 17920],
+    n: u8,
+    from: usize,
+    to: usize,
+) -> bool
+    requires { ⌜ (to ≤ length (take len (now page))) × (length (service (take len (now page))) ≤ 16) ⌝ }
+    ensures { λ r. ⌜ write (view (take len (now (page .entry))) (now (env .entry)) (now (temp .entry)) (now (perm .entry))) n 3 (shortest (length (joined (view (take len (now (page .entry))) (now (env .entry)) (now (temp .entry)) (now (perm .entry))) (named (part (take len (now (page .entry))) from to))))) ≡ cond r (wrote (view (take len (now (page .entry))) (now (env .entry)) (now (temp .exit)) (now (perm .exit)))) noRoom ⌝ }
+    ensures { λ r. ⌜ (r ≡ false → (now (temp .exit) ≡ now (temp .entry)) × (now (perm .exit) ≡ now (perm .entry))) ⌝ }
+    ensures { λ _. ⌜ (tidySlots (now (temp .entry)) ≡ true → tidySlots (now (temp .exit)) ≡ true) ⌝ }
+    ensures { λ _. ⌜ (tidyRecords (now (perm .entry)) ≡ true → tidyRecords (now (perm .exit)) ≡ true) ⌝ }
+{
+    whole::set_length(state::page_of(page, len), env, temp, perm, n, from, to)
 }

@@ -45,7 +45,7 @@ pub fn take_steps(state: State, most: usize, out: &mut [u8]) -> Course
                 state::note(&mut environment, 0, 0);
                 parts::leave_unit(&mut trail, &page, len, unit);
                 unit = k;
-                place = unit::entry_of(state::page_of(&page, len), k);
+                place = parts::entry_at(&page, len, k);
                 continue;
             }
             Way::Place(p) => {
@@ -62,14 +62,16 @@ pub fn take_steps(state: State, most: usize, out: &mut [u8]) -> Course
                     &trail,
                     &mut guard,
                     &wanted,
-                    state::page_of(&page, len),
+                    &page,
+                    len,
                     Outcome::Ended,
                     count,
                 );
             }
             Way::Store(start, stop) => {
-                if whole::set_all(
-                    state::page_of(&page, len),
+                if parts::set_all(
+                    &page,
+                    len,
                     &environment,
                     &mut temporary,
                     &mut permanent,
@@ -87,14 +89,16 @@ pub fn take_steps(state: State, most: usize, out: &mut [u8]) -> Course
                     &trail,
                     &mut guard,
                     &wanted,
-                    state::page_of(&page, len),
+                    &page,
+                    len,
                     Refusal::Memory,
                     count,
                 );
             }
             Way::Length(n, from, to, stop) => {
-                if whole::set_length(
-                    state::page_of(&page, len),
+                if parts::set_length(
+                    &page,
+                    len,
                     &environment,
                     &mut temporary,
                     &mut permanent,
@@ -113,7 +117,8 @@ pub fn take_steps(state: State, most: usize, out: &mut [u8]) -> Course
                     &trail,
                     &mut guard,
                     &wanted,
-                    state::page_of(&page, len),
+                    &page,
+                    len,
                     Refusal::Memory,
                     count,
                 );
@@ -159,7 +164,8 @@ pub fn take_steps(state: State, most: usize, out: &mut [u8]) -> Course
                     &trail,
                     &mut guard,
                     &wanted,
-                    state::page_of(&page, len),
+                    &page,
+                    len,
                     Refusal::Memory,
                     count,
                 );
@@ -172,7 +178,8 @@ pub fn take_steps(state: State, most: usize, out: &mut [u8]) -> Course
                     &trail,
                     &mut guard,
                     &wanted,
-                    state::page_of(&page, len),
+                    &page,
+                    len,
                     why,
                     count,
                 );
@@ -188,7 +195,8 @@ pub fn take_steps(state: State, most: usize, out: &mut [u8]) -> Course
                     &trail,
                     &mut guard,
                     &wanted,
-                    state::page_of(&page, len),
+                    &page,
+                    len,
                     Outcome::Page,
                     count,
                 );
@@ -198,7 +206,7 @@ pub fn take_steps(state: State, most: usize, out: &mut [u8]) -> Course
                 match parts::turn_back(&mut trail, &mut wanted, &page, len) {
                     Turn::Unit(k) => {
                         unit = k;
-                        place = unit::entry_of(state::page_of(&page, len), k);
+                        place = parts::entry_at(&page, len, k);
                     }
                     Turn::Nowhere => {
                         return parts::end_page(
@@ -208,7 +216,8 @@ pub fn take_steps(state: State, most: usize, out: &mut [u8]) -> Course
                             &trail,
                             &mut guard,
                             &wanted,
-                            state::page_of(&page, len),
+                            &page,
+                            len,
                             Outcome::Ended,
                             count,
                         );
@@ -221,7 +230,8 @@ pub fn take_steps(state: State, most: usize, out: &mut [u8]) -> Course
                             &trail,
                             &mut guard,
                             &wanted,
-                            state::page_of(&page, len),
+                            &page,
+                            len,
                             Outcome::Page,
                             count,
                         );
