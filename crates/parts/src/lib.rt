@@ -47,11 +47,20 @@ pub enum Turn {
     Page,
 }
 
-// A unit that a branch leaves is added to the history.
-pub fn leave_unit(trail: &mut [u8; 1058], page: &[u8; 4096], len: usize, unit: usize)
+// A branch leaves a unit: '05' becomes '0000', and the unit is added to the history.
+pub fn leave_unit(
+    environment: &mut [u8; 16640],
+    trail: &mut [u8; 1058],
+    page: &[u8; 4096],
+    len: usize,
+    unit: usize,
+)
     ensures { λ _. ⌜ (judge (take len (now (page .entry))) ≡ Accepted → historyOf (now (trail .exit)) ≡ leftBy (entryFor (take len (now (page .entry))) unit) (historyOf (now (trail .entry)))) ⌝ }
     ensures { λ _. ⌜ (tidyTrail (now (trail .entry)) ≡ true → tidyTrail (now (trail .exit)) ≡ true) ⌝ }
+    ensures { λ _. ⌜ slots (now (environment .exit)) ≡ set (slots (now (environment .entry))) 5 (held 3 (0 ∷ 0 ∷ [])) ⌝ }
+    ensures { λ _. ⌜ (tidySlots (now (environment .entry)) ≡ true → tidySlots (now (environment .exit)) ≡ true) ⌝ }
 {
+    state::note(environment, 0, 0);
     let mut entry = [0u8; 65];
     let n = leaving::entry_into(&mut entry, state::page_of(page, len), unit);
     leaving::leave(trail, &entry, n);

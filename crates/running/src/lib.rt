@@ -42,8 +42,7 @@ pub fn take_steps(state: State, most: usize, out: &mut [u8]) -> Course
         count = count + 1;
         match way {
             Way::Enter(k) => {
-                state::note(&mut environment, 0, 0);
-                parts::leave_unit(&mut trail, &page, len, unit);
+                parts::leave_unit(&mut environment, &mut trail, &page, len, unit);
                 unit = k;
                 place = parts::entry_at(&page, len, k);
                 continue;
@@ -185,8 +184,7 @@ pub fn take_steps(state: State, most: usize, out: &mut [u8]) -> Course
                 );
             }
             Way::Away(start, stop) => {
-                state::note(&mut environment, 0, 0);
-                parts::leave_unit(&mut trail, &page, len, unit);
+                parts::leave_unit(&mut environment, &mut trail, &page, len, unit);
                 parts::want_from(&mut wanted, &page, len, start, stop);
                 return parts::end_page(
                     &environment,

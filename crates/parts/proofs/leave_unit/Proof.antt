@@ -5,6 +5,9 @@ use borrow.Author.Needs.{needs}
 use Rattle.parts.proofs.leave_unit.Statement.{statement}
 use Rattle.parts.proofs.leave_unit.Tie as tie
 
+note-requires : tie.Need-note-requires
+note-requires c κs = search needs
+
 page-of-requires : tie.Need-page-of-requires
 page-of-requires c κs = search needs
 
@@ -18,4 +21,5 @@ returns : tie.Need-returns
 returns c = search (needs, left-is)
 
 pub leave-unit-spec : {M : Type 1} → statement M
-leave-unit-spec = tie.close (tie.spec page-of-requires entry-into-requires leave-requires returns)
+leave-unit-spec =
+    tie.close (tie.spec note-requires page-of-requires entry-into-requires leave-requires returns)

@@ -34,9 +34,6 @@ add-count c = search (needs, loop-laws)
 enum-known-way : tie.Need-enum-known-way Inv-loop μ-loop
 enum-known-way c = search (needs, loop-laws)
 
-note-requires : tie.Need-note-requires Inv-loop μ-loop
-note-requires c κs = tt
-
 leave-unit-requires : tie.Need-leave-unit-requires Inv-loop μ-loop
 leave-unit-requires c κs = tt
 
@@ -48,25 +45,25 @@ loop-less c = omega arith
 
 loop-again : tie.Need-loop-again Inv-loop μ-loop
 loop-again c =
-    let l = c .before .before .before .before .before .before .before .before .before .before .before .before .before .before .before .before .loop in
-    let h = c .before .before .before .before .before .before .before .before .before .before .before .before .before .before .before .loop-test .taken in
-    let way = c .before .before .before .before .before .before .before .before .before .before .way-at .ensures in
-    let note = c .before .before .before .before .before .note .ensures in
+    let l = c .before .before .before .before .before .before .before .before .before .before .before .before .before .before .before .loop in
+    let h = c .before .before .before .before .before .before .before .before .before .before .before .before .before .before .loop-test .taken in
+    let way = c .before .before .before .before .before .before .before .before .before .way-at .ensures in
     let leave = c .before .before .leave-unit .ensures in
-    let x = c .before .before .before .before .before .before .before .before .way .given .1 in
+    let note = leave .1 .1 in
+    let x = c .before .before .before .before .before .before .before .way .given .1 in
     let entry = c .entry-at .ensures in (
       omega arith,
       l .inv .1,
       l .inv .2,
-      enter-ready _ (l .count) _ _ (l .inv .4) (l .inv .3) h _ way _ (note .1) (note .0) _ (leave .0) (leave .1) _ x _ refl _ entry,
-      enter-steps _ (l .count) _ _ (l .inv .4) (l .inv .3) h _ way _ (note .1) (note .0) _ (leave .0) (leave .1) _ x _ refl _ entry,
+      enter-ready _ (l .count) _ _ (l .inv .4) (l .inv .3) h _ way _ (note .1) (note .0) _ (leave .0) (leave .1 .0) _ x _ refl _ entry,
+      enter-steps _ (l .count) _ _ (l .inv .4) (l .inv .3) h _ way _ (note .1) (note .0) _ (leave .0) (leave .1 .0) _ x _ refl _ entry,
     )
 
 enum-known-way-2 : tie.Need-enum-known-way-2 Inv-loop μ-loop
 enum-known-way-2 c = search (needs, loop-laws)
 
-note-requires-2 : tie.Need-note-requires-2 Inv-loop μ-loop
-note-requires-2 c κs = tt
+note-requires : tie.Need-note-requires Inv-loop μ-loop
+note-requires c κs = tt
 
 loop-less-2 : tie.Need-loop-less-2 Inv-loop μ-loop
 loop-less-2 c = omega arith
@@ -76,7 +73,7 @@ loop-again-2 c =
     let l = c .before .before .before .before .before .before .before .before .before .before .before .loop in
     let h = c .before .before .before .before .before .before .before .before .before .before .loop-test .taken in
     let way = c .before .before .before .before .before .way-at .ensures in
-    let note = c .note2 .ensures in
+    let note = c .note .ensures in
     let x = c .before .before .before .way2 .given .1 in (
       omega arith,
       l .inv .1,
@@ -118,8 +115,8 @@ set-all-requires c κs =
     let x = c .before .before .before .before .before .way4 .given .1 in
     (store-ordered _ (l .count) _ _ (l .inv .4) (l .inv .3) h _ way _ refl _ _ x, store-within _ (l .count) _ _ (l .inv .4) (l .inv .3) h _ way _ refl _ _ x, served _ (l .inv .3) _ refl)
 
-note-requires-3 : tie.Need-note-requires-3 Inv-loop μ-loop
-note-requires-3 c κs = tt
+note-requires-2 : tie.Need-note-requires-2 Inv-loop μ-loop
+note-requires-2 c κs = tt
 
 loop-less-3 : tie.Need-loop-less-3 Inv-loop μ-loop
 loop-less-3 c = omega arith
@@ -129,7 +126,7 @@ loop-again-3 c =
     let l = c .before .before .before .before .before .before .before .before .before .before .before .before .before .before .before .before .before .loop in
     let h = c .before .before .before .before .before .before .before .before .before .before .before .before .before .before .before .before .loop-test .taken in
     let way = c .before .before .before .before .before .before .before .before .before .before .before .way-at .ensures in
-    let note = c .note3 .ensures in
+    let note = c .note2 .ensures in
     let set = c .before .before .before .set-all .ensures in
     let room = c .before .before .if1 .taken in
     let x = c .before .before .before .before .before .before .before .before .before .way4 .given .1 in (
@@ -169,8 +166,8 @@ set-length-requires c κs =
     let way = c .before .before .before .before .before .before .before .way-at .ensures in
     (length-within _ (l .count) _ _ (l .inv .4) (l .inv .3) h _ way _ refl _ _ _ _ (c .before .before .before .before .before .way5 .given .1), served _ (l .inv .3) _ refl)
 
-note-requires-4 : tie.Need-note-requires-4 Inv-loop μ-loop
-note-requires-4 c κs = tt
+note-requires-3 : tie.Need-note-requires-3 Inv-loop μ-loop
+note-requires-3 c κs = tt
 
 loop-less-4 : tie.Need-loop-less-4 Inv-loop μ-loop
 loop-less-4 c = omega arith
@@ -180,7 +177,7 @@ loop-again-4 c =
     let l = c .before .before .before .before .before .before .before .before .before .before .before .before .before .before .before .before .before .loop in
     let h = c .before .before .before .before .before .before .before .before .before .before .before .before .before .before .before .before .loop-test .taken in
     let way = c .before .before .before .before .before .before .before .before .before .before .before .way-at .ensures in
-    let note = c .note4 .ensures in
+    let note = c .note3 .ensures in
     let set = c .before .before .before .set-length .ensures in
     let room = c .before .before .if2 .taken in
     let x = c .before .before .before .before .before .before .before .before .before .way5 .given .1 in (
@@ -276,9 +273,6 @@ returns-6 c =
 enum-known-way-8 : tie.Need-enum-known-way-8 Inv-loop μ-loop
 enum-known-way-8 c = search (needs, loop-laws)
 
-note-requires-5 : tie.Need-note-requires-5 Inv-loop μ-loop
-note-requires-5 c κs = tt
-
 leave-unit-requires-2 : tie.Need-leave-unit-requires-2 Inv-loop μ-loop
 leave-unit-requires-2 c κs = tt
 
@@ -290,24 +284,24 @@ end-page-requires-2 c κs = tt
 
 same-length-7 : tie.Need-same-length-7 Inv-loop μ-loop
 same-length-7 c =
-    ap length (c .before .before .before .before .before .before .before .before .before .before .before .before .before .before .before .before .before .before .before .before .before .before .before .before .before .loop .inv .1)
+    ap length (c .before .before .before .before .before .before .before .before .before .before .before .before .before .before .before .before .before .before .before .before .before .before .before .before .loop .inv .1)
 
 returns-7 : tie.Need-returns-7 Inv-loop μ-loop
 returns-7 c =
-    let l = c .before .before .before .before .before .before .before .before .before .before .before .before .before .before .before .before .before .before .before .before .before .before .before .before .before .loop in
-    let h = c .before .before .before .before .before .before .before .before .before .before .before .before .before .before .before .before .before .before .before .before .before .before .before .before .loop-test .taken in
-    let way = c .before .before .before .before .before .before .before .before .before .before .before .before .before .before .before .before .before .before .before .way-at .ensures in
-    let note = c .before .before .before .before .before .before .before .before .before .before .before .before .before .before .note5 .ensures in
+    let l = c .before .before .before .before .before .before .before .before .before .before .before .before .before .before .before .before .before .before .before .before .before .before .before .before .loop in
+    let h = c .before .before .before .before .before .before .before .before .before .before .before .before .before .before .before .before .before .before .before .before .before .before .before .loop-test .taken in
+    let way = c .before .before .before .before .before .before .before .before .before .before .before .before .before .before .before .before .before .before .way-at .ensures in
     let leave = c .before .before .before .before .before .before .before .before .before .before .before .leave-unit2 .ensures in
+    let note = leave .1 .1 in
     let want = c .before .before .before .before .before .before .before .before .want-from .ensures in
     let end = c .end-page2 .ensures in
-    rw (← l .inv .1, end .0) (away-counts _ (l .count) _ _ (l .inv .4) (l .inv .3) h _ way _ (note .1) (note .0) _ (leave .0) (leave .1) _ _ (c .before .before .before .before .before .before .before .before .before .before .before .before .before .before .before .before .before .way8 .given .1) _ (want .0) (want .1) _ (end .1 .0) (end .1 .1 .0) _ (end .1 .1 .1 .0) (end .1 .1 .1 .1) _ refl _)
+    rw (← l .inv .1, end .0) (away-counts _ (l .count) _ _ (l .inv .4) (l .inv .3) h _ way _ (note .1) (note .0) _ (leave .0) (leave .1 .0) _ _ (c .before .before .before .before .before .before .before .before .before .before .before .before .before .before .before .before .way8 .given .1) _ (want .0) (want .1) _ (end .1 .0) (end .1 .1 .0) _ (end .1 .1 .1 .0) (end .1 .1 .1 .1) _ refl _)
 
 enum-told : tie.Need-enum-told Inv-loop μ-loop
 enum-told c = search (needs, loop-laws)
 
-note-requires-6 : tie.Need-note-requires-6 Inv-loop μ-loop
-note-requires-6 c κs = tt
+note-requires-4 : tie.Need-note-requires-4 Inv-loop μ-loop
+note-requires-4 c κs = tt
 
 turn-back-requires : tie.Need-turn-back-requires Inv-loop μ-loop
 turn-back-requires c κs = tt
@@ -326,7 +320,7 @@ loop-again-5 c =
     let l = c .before .before .before .before .before .before .before .before .before .before .before .before .before .before .before .before .before .before .before .loop in
     let h = c .before .before .before .before .before .before .before .before .before .before .before .before .before .before .before .before .before .before .loop-test .taken in
     let way = c .before .before .before .before .before .before .before .before .before .before .before .before .before .way-at .ensures in
-    let note = c .before .before .before .before .before .before .before .before .before .note6 .ensures in
+    let note = c .before .before .before .before .before .before .before .before .before .note4 .ensures in
     let turn = c .before .before .before .before .before .turn-back .ensures in
     let y = c .before .before .before .k .given .1 in
     let back = turn .1 .1 .0 _ y in
@@ -353,7 +347,7 @@ returns-8 c =
     let l = c .before .before .before .before .before .before .before .before .before .before .before .before .before .before .before .before .before .before .before .before .before .before .before .before .loop in
     let h = c .before .before .before .before .before .before .before .before .before .before .before .before .before .before .before .before .before .before .before .before .before .before .before .loop-test .taken in
     let way = c .before .before .before .before .before .before .before .before .before .before .before .before .before .before .before .before .before .before .way-at .ensures in
-    let note = c .before .before .before .before .before .before .before .before .before .before .before .before .before .before .note6 .ensures in
+    let note = c .before .before .before .before .before .before .before .before .before .before .before .before .before .before .note4 .ensures in
     let turn = c .before .before .before .before .before .before .before .before .before .before .turn-back .ensures in
     let end = c .end-page3 .ensures in
     let y = c .before .before .before .before .before .before .before .before .enum-told2 .given .1 in
@@ -375,7 +369,7 @@ returns-9 c =
     let l = c .before .before .before .before .before .before .before .before .before .before .before .before .before .before .before .before .before .before .before .before .before .before .before .before .loop in
     let h = c .before .before .before .before .before .before .before .before .before .before .before .before .before .before .before .before .before .before .before .before .before .before .before .loop-test .taken in
     let way = c .before .before .before .before .before .before .before .before .before .before .before .before .before .before .before .before .before .before .way-at .ensures in
-    let note = c .before .before .before .before .before .before .before .before .before .before .before .before .before .before .note6 .ensures in
+    let note = c .before .before .before .before .before .before .before .before .before .before .before .before .before .before .note4 .ensures in
     let turn = c .before .before .before .before .before .before .before .before .before .before .turn-back .ensures in
     let end = c .end-page4 .ensures in
     let y = c .before .before .before .before .before .before .before .before .enum-told3 .given .1 in
@@ -400,13 +394,12 @@ take-steps-spec =
     way-at-requires
     add-count
     enum-known-way
-    note-requires
     leave-unit-requires
     entry-at-requires
     loop-less
     loop-again
     enum-known-way-2
-    note-requires-2
+    note-requires
     loop-less-2
     loop-again-2
     enum-known-way-3
@@ -416,7 +409,7 @@ take-steps-spec =
     returns
     enum-known-way-4
     set-all-requires
-    note-requires-3
+    note-requires-2
     loop-less-3
     loop-again-3
     refuse-page-requires
@@ -424,7 +417,7 @@ take-steps-spec =
     returns-2
     enum-known-way-5
     set-length-requires
-    note-requires-4
+    note-requires-3
     loop-less-4
     loop-again-4
     refuse-page-requires-2
@@ -442,14 +435,13 @@ take-steps-spec =
     same-length-6
     returns-6
     enum-known-way-8
-    note-requires-5
     leave-unit-requires-2
     want-from-requires
     end-page-requires-2
     same-length-7
     returns-7
     enum-told
-    note-requires-6
+    note-requires-4
     turn-back-requires
     enum-known-k
     entry-at-requires-2
