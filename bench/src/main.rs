@@ -24,9 +24,8 @@ const COMMAND: u8 = 1;
 fn main() {
     println!("{:<52} {:>12} {:>12} {:>8}", "", "ours", "second", "ratio");
     for rich in [false, true] {
-        for length in [512, 1024, 2048, 4096] {
-            judge(length, rich);
-        }
+        let times = [512, 1024, 2048, 4096].map(|length| judge(length, rich));
+        println!("{:<52} {:>9.2} times", "    4096 bytes against 512", times[3] / times[0]);
     }
     let ring = pages::ring(64);
     run("10,000 branches among 64 units, run", &ring, BRANCHES);
@@ -37,8 +36,8 @@ fn main() {
     step("1,000 branches among 64 units, step by step", &ring);
 }
 
-/// Times both in turn, and prints the medians in microseconds of one of `parts` equal parts.
-fn report(name: &str, parts: usize, mut ours: impl FnMut(), mut second: impl FnMut()) {
+/// Times both in turn, and prints the medians in microseconds of one of `parts` equal parts; answers ours.
+fn report(name: &str, parts: usize, mut ours: impl FnMut(), mut second: impl FnMut()) -> f64 {
     let mut times = [Vec::new(), Vec::new()];
     for _ in 0..REPETITIONS {
         times[0].push(microseconds(&mut ours));
@@ -46,6 +45,7 @@ fn report(name: &str, parts: usize, mut ours: impl FnMut(), mut second: impl FnM
     }
     let [ours, second] = times.map(|times| median(times) / parts as f64);
     println!("{name:<52} {ours:>9.2} us {second:>9.2} us {:>8.2}", ours / second);
+    ours
 }
 
 fn microseconds(work: &mut impl FnMut()) -> f64 {
@@ -59,7 +59,7 @@ fn median(mut times: Vec<f64>) -> f64 {
     times[times.len() / 2]
 }
 
-fn judge(length: usize, rich: bool) {
+fn judge(length: usize, rich: bool) -> f64 {
     let page = pages::filled(length, rich);
     assert_eq!((page.len(), calls::judge(&page)), (length, 0), "an accepted page of its length");
     let kind = if rich { "rich" } else { "plain" };
@@ -76,7 +76,7 @@ fn judge(length: usize, rich: bool) {
                 black_box(compare::loader::judge(black_box(&page))).expect("accepted");
             }
         },
-    );
+    )
 }
 
 /// A card with the host's variable set, on which the page runs.
