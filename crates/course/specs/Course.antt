@@ -4,7 +4,6 @@ use mathlib.Core.Bool.{true}
 use mathlib.Core.Path.{_≡_}
 use mathlib.Core.List.{List}
 use Rattle.rules.specs.Card.{isEmpty}
-use Rattle.rules.specs.Trail.{last}
 use Rattle.rules.specs.Calls.{bufferAfter, Counted}
 use Rattle.rules.proofs.StaysCardStep.{Running}
 use Rattle.state.specs.declared.State.{State}
