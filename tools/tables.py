@@ -1,5 +1,5 @@
 #!/usr/bin/env python3
-"""Prints the tables of the crates grammar, shape and forms: for the code, and as lists of the proofs.
+"""Prints the tables of the crates grammar, shape and forms: as constants of the code, and as lists of the proofs.
 
 What is described here is what the rules say in Grammar.antt, Shape.antt and Forms.antt. The proofs compare every entry
 with the rules, so that a wrong number in a table is refused.
@@ -67,54 +67,36 @@ SHAPES = [
 SIZES = [(1, 32, [0x02, 0x0B]), (1, 17, [0x03]), (0, 16, [0x04]), (1, 16, [0x06])]
 
 
-def groups(keys):
-    """Keys in arms of their own where they stand next to each other: in one arm they would be a range."""
-    arms = []
-    for key in sorted(keys):
-        fitting = [arm for arm in arms if arm[-1] != key - 1]
-        if fitting:
-            min(fitting, key=len).append(key)
-        else:
-            arms.append([key])
-    return arms
+def cell(kind, tag):
+    """Sixteen times the place of the tag's part, counted from 1, and how often."""
+    for place, (tags, often) in enumerate(GRAMMAR.get(kind, []), 1):
+        if tag in tags:
+            return place * 16 + often
+    return 0
 
 
-def keyed(kind, tags):
-    return groups([KINDS.index(kind) * 256 + tag for tag in tags])
-
-
-def cells():
-    """Sixteen times the place of a tag's part, counted from 1, and how often."""
-    for kind, parts in GRAMMAR.items():
-        for place, (tags, often) in enumerate(parts, 1):
-            for keys in keyed(kind, tags):
-                yield keys, f"0x{place * 16 + often:02X}"
-
-
-def needs():
+def needs(kind):
     """What the parts of a kind ask of a row: two at most."""
-    for kind, parts in GRAMMAR.items():
-        asks = []
-        for place, (_, often) in enumerate(parts, 1):
-            ask = {MUST: place * 16 + 1, SOLE: 1, SOME: place * 16 + 4, PAIRED: 2}.get(often)
-            if ask is not None:
-                asks.append(ask)
-        assert len(asks) <= 2
-        for k, ask in enumerate(asks):
-            yield [KINDS.index(kind) * 16 + k], f"0x{ask:02X}"
+    asks = []
+    for place, (_, often) in enumerate(GRAMMAR.get(kind, []), 1):
+        ask = {MUST: place * 16 + 1, SOLE: 1, SOME: place * 16 + 4, PAIRED: 2}.get(often)
+        if ask is not None:
+            asks.append(ask)
+    assert len(asks) <= 2
+    return asks + [0] * (2 - len(asks))
 
 
-def beyonds():
-    for kind, tags in BEYONDS.items():
-        for keys in keyed(kind, tags):
-            yield keys, "true"
+def beyonds(tag):
+    """A bit for each kind of container in which a tag is beyond the base: units, modifiers, actions."""
+    return sum(1 << bit for bit, kind in enumerate(BEYONDS) if tag in BEYONDS[kind])
 
 
-def shapes():
-    """In octal the kind of container that a tag is, what follows its fixed bytes, and their count."""
+def shape(tag):
+    """The kind of container that a tag is, what follows its fixed bytes, and their count: in octal, from left to right."""
     for kind, follows, fixed, tags in SHAPES:
-        for keys in groups(tags):
-            yield keys, f"0o{KINDS.index(kind) * 64 + follows * 8 + fixed:03o}"
+        if tag in tags:
+            return KINDS.index(kind) * 64 + follows * 8 + fixed
+    return 0
 
 
 def size(tag):
@@ -125,31 +107,62 @@ def size(tag):
     return 0
 
 
-def show_arms(name, arms, width):
-    """The arms of a `match`, and their keys for the proofs."""
-    arms = [([f"0x{key:0{width}X}" for key in keys], number) for keys, number in arms]
-    for keys, number in arms:
-        print(f"        {' | '.join(keys)} => {number},")
-    print(f"\nabbrev pub {name} : List (List ℕ)\n{name} =")
-    for keys, _ in arms:
-        print(f"    ({' ∷ '.join(keys)} ∷ []) ∷")
-    print("    []\n")
+def column(tag):
+    """All that the rules say of a tag: tags of which they say the same share a column."""
+    cells = [cell(kind, tag) for kind in KINDS]
+    return cells, beyonds(tag), shape(tag)
 
 
-def show_bytes(name, constant, numbers):
-    """A constant array, and its list for the proofs."""
-    text = "".join(f"\\x{x:02x}" for x in numbers)
-    print(f'const {constant}: [u8; {len(numbers)}] = *b"{text}";\n')
-    print(f"unfoldable pub {name} : List ℕ\n{name} =\n    hex {len(numbers)} 0x{''.join(f'{x:02x}' for x in numbers)}")
+def chunks(numbers, width):
+    return [numbers[i : i + width] for i in range(0, len(numbers), width)]
+
+
+def code(name, rows):
+    body = "\\\n    ".join("".join(f"\\x{x:02x}" for x in row) for row in rows)
+    return f'const {name}: [u8; {sum(map(len, rows))}] = *b"{body}";\n'
+
+
+def proof(name, rows):
+    body = " ++\n".join(f"    hex {len(row)} 0x{''.join(f'{x:02x}' for x in row)}" for row in rows)
+    return f"unfoldable pub {name} : List ℕ\n{name} =\n{body}\n"
+
+
+def show(name, constant, rows):
+    print(code(constant, rows))
+    print(proof(name, rows))
+
+
+def show_octal(name, constant, numbers):
+    print(f"const {constant}: [u16; {len(numbers)}] = [{', '.join(f'0o{n:03o}' for n in numbers)}];\n")
+    print(f"unfoldable pub {name} : List ℕ\n{name} = {' ∷ '.join(f'0o{n:03o}' for n in numbers)} ∷ []\n")
 
 
 def main():
-    show_arms("cellKeys", cells(), 4)
-    show_arms("needKeys", needs(), 2)
-    show_arms("beyondKeys", beyonds(), 4)
-    show_arms("shapeKeys", shapes(), 2)
+    columns = [column(None)]
+    for tag in range(256):
+        if column(tag) not in columns:
+            columns.append(column(tag))
+
+    # a slot for each tag up to '16' and from '40' to '4B'; 64 more where the rules say the same of the tag with attributes
+    slotted = list(range(0x17)) + list(range(0x40, 0x4C))
+    slots = []
+    for tag in slotted:
+        here = columns.index(column(tag))
+        there = columns.index(column(tag + 128))
+        assert there in (0, here)
+        slots.append(here + 64 * (there > 0))
+    assert all(column(tag) == columns[0] for tag in range(256) if tag % 128 not in slotted)
+
+    print(f"kinds {len(KINDS)}, width {len(columns)}\n")
+    show("columns", "COLUMNS", [slots[:0x17], slots[0x17:]])
+    cells = [[c[0][k] for c in columns] for k in range(len(KINDS))]
+    for k in range(0, len(KINDS), 4):
+        show(f"cells{k}", f"CELLS_{k}", cells[k : k + 4])
+    show("asked", "NEEDS", [needs(kind) for kind in KINDS])
+    show("beyondBits", "BEYONDS", [[c[1] for c in columns]])
+    show_octal("table", "SHAPES", [c[2] for c in columns])
     assert not any(size(tag) for tag in range(16, 256))
-    show_bytes("limits", "SIZES", [size(tag) for tag in range(16)])
+    show("limits", "SIZES", [[size(tag) for tag in range(16)]])
 
 
 if __name__ == "__main__":

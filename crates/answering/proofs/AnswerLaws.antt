@@ -6,7 +6,7 @@ use mathlib.Core.List.{List}
 use mathlib.Core.Path.{_≡_, refl, sym, ap, _∙_}
 use native.Mathlib.Omega.{arith}
 use lib.ListN.{length, getD, take, drop, length-take, length-drop}
-use Rattle.leaf.proofs.Cases.{both}
+use Rattle.leaf.proofs.Cases.{both, told-as}
 use Rattle.rules.specs.declared.Head.{Head}
 use Rattle.rules.specs.declared.Head.the-variants.{Tlv, Past}
 use Rattle.rules.specs.declared.Judged.the-variants.{Accepted}
@@ -67,74 +67,15 @@ module _ (s p : List ℕ) (e : s ≡ p) (k place : ℕ) (h : Head) (g : h ≡ co
 
 pub ruleset code-bounds = (code-ordered, code-inside)
 
-module _ (a : Action) where
-  pub again-pass : a ≡ Pass → false ≡ isRetry a
-  unfolding isRetry
-  again-pass x = simp x
-
-  pub again-next : a ≡ Next → false ≡ isRetry a
-  unfolding isRetry
-  again-next x = simp x
-
-  pub again-quit : a ≡ Quit → false ≡ isRetry a
-  unfolding isRetry
-  again-quit x = simp x
-
-  pub again-back : a ≡ Back → false ≡ isRetry a
-  unfolding isRetry
-  again-back x = simp x
-
-  pub again-retry : a ≡ Retry → true ≡ isRetry a
-  unfolding isRetry
-  again-retry x = simp x
-
-  pub again-go : (start stop : ℕ) → a ≡ Go start stop → false ≡ isRetry a
-  unfolding isRetry
-  again-go start stop x = simp x
-
-pub ruleset again-laws = (again-pass, again-next, again-quit, again-back, again-retry, again-go)
-
-module _ (t : Target) where
-  pub lacking-unit : (k : ℕ) → t ≡ UnitAt k → false ≡ isLacking t
-  unfolding isLacking
-  lacking-unit k x = simp x
-
-  pub lacking-none : t ≡ Lacking → true ≡ isLacking t
-  unfolding isLacking
-  lacking-none x = simp x
-
-  pub lacking-other : t ≡ Other → false ≡ isLacking t
-  unfolding isLacking
-  lacking-other x = simp x
-
-pub ruleset lacking-laws = (lacking-unit, lacking-none, lacking-other)
-
 module _ (s : List ℕ) (a : Action) where
-  pub lacks-pass : a ≡ Pass → false ≡ lacksIn s a
-  unfolding lacksIn
-  lacks-pass x = simp x
-
-  pub lacks-next : a ≡ Next → false ≡ lacksIn s a
-  unfolding lacksIn
-  lacks-next x = simp x
-
-  pub lacks-quit : a ≡ Quit → false ≡ lacksIn s a
-  unfolding lacksIn
-  lacks-quit x = simp x
-
-  pub lacks-back : a ≡ Back → false ≡ lacksIn s a
-  unfolding lacksIn
-  lacks-back x = simp x
-
-  pub lacks-retry : a ≡ Retry → false ≡ lacksIn s a
-  unfolding lacksIn
-  lacks-retry x = simp x
+  pub lacks-as : (b : Action) (v : Bool) → a ≡ b → lacksIn s b ≡ v → v ≡ lacksIn s a
+  lacks-as b v e f = told-as (lacksIn s) e f
 
   pub lacks-go : (start stop : ℕ) → a ≡ Go start stop → (w : List ℕ) → w ≡ part s start stop → (t : Target) → t ≡ target s w → (b : Bool) → b ≡ isLacking t → b ≡ lacksIn s a
   unfolding lacksIn
   lacks-go start stop x w e t f b g = g ∙ sym (simp x (ap isLacking (sym (rw e at f))))
 
-pub ruleset lacks-laws = (lacks-pass, lacks-next, lacks-quit, lacks-back, lacks-retry, lacks-go)
+pub ruleset lacks-laws = (lacks-as, lacks-go)
 
 -- where an action leads, by the page alone
 moveBy : List ℕ → Target → Move

@@ -16,7 +16,7 @@ use Rattle.rules.specs.Page.{service}
 use Rattle.rules.specs.Card.{Slot, free, held, Card}
 use Rattle.rules.specs.Store.{area, unserved, read, worse}
 use Rattle.rules.specs.Step.{Plan, unless, caseValue, casesComplaint, caseChoice, choose, chosen, branchOnSlot, branchOnValue}
-use Rattle.variable.specs.View.{seen, bare, view}
+use Rattle.variable.specs.View.{seen, bare}
 use Rattle.variable.proofs.Bare.{bare-read}
 use Rattle.value.proofs.Bare.{bare-complaint, bare-joined}
 use Rattle.branching.specs.declared.Branch.{Branch}
@@ -59,6 +59,3 @@ branch-taken c start stop =
     let n = getD (c .run .page) start 0 in
     unless-taken c stop (worse (unserved (service (c .run .page)) (area n)) (casesComplaint (c .run .page) row)) (branchOnSlot c stop row (read c n)) (branchSlot (bare c) row (read (bare c) n))
     (rw (bare-read c n) (slot-taken c stop row (read c n)))
-
-pub branch-view : (c : Card) (page env temp perm : List ℕ) → bare c ≡ view page env temp perm → (start stop : ℕ) → branchOnValue c start stop ≡ takenOn c stop (branchChoice (view page env temp perm) start stop)
-branch-view c page env temp perm e start stop = rw (← e) (branch-taken c start stop)

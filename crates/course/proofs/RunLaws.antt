@@ -1,7 +1,7 @@
 -- A run, in the shape of what its proof needs.
 -- Assumes nothing.
 use Prim.Native.Nat.{ℕ, zero, suc, _+_, _-_, _≤_, _<_}
-use mathlib.Core.Bool.{Bool, true, false, cond, true≢false, false≢true}
+use mathlib.Core.Bool.{Bool, true, false, cond, false≢true}
 use mathlib.Core.List.{List, [], _∷_}
 use mathlib.Core.Path.{_≡_, refl, sym, ap, _∙_}
 use native.Mathlib.Omega.{arith}
@@ -72,28 +72,12 @@ filled : (s : List ℕ) → judge s ≡ Accepted → length s ≡ 0 → ⊥
 filled [] e z = empty-page e
 filled (x ∷ xs) e z = absurd (omega arith)
 
-quiet : (c : Card) (b : List ℕ) (o : Outcome) → goesOn o ≡ true → bufferAfter b c o ≡ b
-unfolding goesOn bufferAfter
-quiet c b On e = refl
-quiet c b (Command n) e = absurd (false≢true e)
-quiet c b Wanted e = absurd (false≢true e)
-quiet c b Ended e = absurd (false≢true e)
-quiet c b (Refused r) e = absurd (false≢true e)
-
 one-less : (n k : ℕ) → k < n → n - k ≡ suc (n - (k + 1))
 one-less n k h = omega arith
 
 -- what a state is for certain, it is
 on-card : (m : State) (c : Card) → Is m c → Is m (card m)
 on-card m c is = rw (is-card m c is) is
-
-goes : (b : Bool) → cond b false true ≡ false → b ≡ true
-goes true e = refl
-goes false e = absurd (true≢false e)
-
-ends : (b : Bool) → cond b false true ≡ true → b ≡ false
-ends true e = absurd (false≢true e)
-ends false e = refl
 
 pub steps-start : (n : ℕ) (c : Card) → steps (n - 0) 0 c ≡ steps n 0 c
 steps-start n c = let z : n - 0 ≡ n = omega arith in rw z refl

@@ -13,11 +13,11 @@ abbrev pub every : ℕ → (ℕ → Bool) → Bool
 every zero f = true
 every (suc n) f = cond (f n) (every n f) false
 
-pub first : (a b : Bool) → T (cond a b false) → T a
+first : (a b : Bool) → T (cond a b false) → T a
 first true b t = tt
 first false b t = t
 
-pub second : (a b : Bool) → T (cond a b false) → T b
+second : (a b : Bool) → T (cond a b false) → T b
 second true b t = t
 second false b t = absurd t
 
@@ -27,6 +27,10 @@ every-at (suc n) f t k h =
     both (eqb k n)
     (λ e. subst (λ (m : ℕ). T (f m)) (sym (eqb-true k n e)) (first (f n) (every n f) t))
     (λ e. every-at n f (second (f n) (every n f) t) k (let d = eqb-false k n e in omega arith))
+
+-- over two numbers
+pub every-in : (n m : ℕ) (f : ℕ → ℕ → Bool) → T (every n (λ i. every m (f i))) → (i k : ℕ) → i < n → k < m → T (f i k)
+every-in n m f t i k h g = every-at m (f i) (every-at n (λ j. every m (f j)) t i h) k g
 
 -- two tests give the same answer
 unfoldable pub agree : Bool → Bool → Bool

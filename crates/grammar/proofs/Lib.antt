@@ -1,4 +1,3 @@
 pub mod Every
-pub mod Keys
 pub mod Tables
 pub mod RowLaws

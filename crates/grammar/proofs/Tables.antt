@@ -1,129 +1,181 @@
--- The rule of each table: every number in it is what the rules say, by computed tests of its keys and of all that is no key.
+-- The code's tables, and the rule of each: every entry is what the rules say, by one computed test.
 -- Assumes nothing.
-use Prim.Native.Nat.{ℕ, _+_, _*_, _/_, _%_, _<_, _≤_}
-use mathlib.Core.Bool.{Bool, false}
-use mathlib.Core.List.{List, [], _∷_}
+use Prim.Native.Nat.{ℕ, _+_, _-_, _*_, _/_, _%_, _≤_, _<_}
+use mathlib.Core.Bool.{false}
+use mathlib.Core.List.{List, [], _++_}
 use mathlib.Core.Path.{_≡_, sym, ap, _∙_}
 use native.Mathlib.Omega.{arith}
 use native.Mathlib.Nat.{le-trans}
-use lib.Dec.{T, eqb, leb, eqb→eq, leb→le}
+use lib.Dec.{T, eqb, ltb, leb, eqb→eq, ltb→lt, leb→le}
 use lib.ListN.{length, getD, List·getD-eq-default}
-use types.Run.{OneOf}
-use Rattle.rules.specs.Bytes.{among}
+use borrow.Author.Tests.{lt-ltb, le-ltb, eqb-true, eqb-false}
+use Rattle.rules.specs.Bytes.{among, hexTo, hex}
 use Rattle.rules.specs.Grammar.{grammar, cellIn, cellOf, asks, needsIn, needOf, beyonds, beyond}
-use Rattle.grammar.proofs.Every.{every-at, agree, agree-eq}
-use Rattle.grammar.proofs.Keys.{each, key-at, NoKey, rest-at}
+use Rattle.leaf.proofs.Cases.{both}
+use Rattle.grammar.specs.Columns.{columns, slotOf, columnIn, columnOf}
+use Rattle.grammar.proofs.Every.{every, every-at, every-in, agree, agree-eq}
 
--- the keys of each arm of the code
-abbrev pub cellKeys : List (List ℕ)
-cellKeys =
-    (0x0102 ∷ []) ∷
-    (0x0103 ∷ []) ∷
-    (0x0104 ∷ []) ∷
-    (0x0105 ∷ []) ∷
-    (0x0106 ∷ []) ∷
-    (0x0107 ∷ []) ∷
-    (0x0108 ∷ 0x0188 ∷ []) ∷
-    (0x010A ∷ 0x018A ∷ []) ∷
-    (0x020B ∷ []) ∷
-    (0x0208 ∷ 0x0288 ∷ []) ∷
-    (0x0240 ∷ 0x0242 ∷ 0x0244 ∷ 0x0246 ∷ 0x0248 ∷ 0x024A ∷ 0x02C3 ∷ 0x02C6 ∷ 0x02CA ∷ []) ∷
-    (0x0241 ∷ 0x0243 ∷ 0x0245 ∷ 0x0247 ∷ 0x0249 ∷ 0x024B ∷ 0x02C5 ∷ 0x02C7 ∷ 0x02CB ∷ []) ∷
-    (0x030E ∷ 0x038E ∷ []) ∷
-    (0x0309 ∷ 0x0389 ∷ []) ∷
-    (0x040C ∷ 0x0412 ∷ 0x0440 ∷ 0x0446 ∷ 0x044B ∷ 0x04C7 ∷ 0x04CB ∷ []) ∷
-    (0x0447 ∷ 0x044A ∷ 0x04C6 ∷ 0x04CA ∷ []) ∷
-    (0x040E ∷ 0x048E ∷ []) ∷
-    (0x050E ∷ 0x058E ∷ []) ∷
-    (0x060D ∷ 0x068E ∷ []) ∷
-    (0x060E ∷ []) ∷
-    (0x0811 ∷ []) ∷
-    (0x0812 ∷ []) ∷
-    (0x090D ∷ 0x098E ∷ []) ∷
-    (0x090E ∷ []) ∷
-    (0x0912 ∷ []) ∷
-    (0x0A0C ∷ []) ∷
-    (0x0B0D ∷ []) ∷
-    (0x0C0D ∷ []) ∷
-    (0x0E01 ∷ 0x0E81 ∷ []) ∷
-    []
+unfoldable pub cells0 : List ℕ
+cells0 =
+    hex 32 0x0000000000000000000000000000000000000000000000000000000000000000 ++
+    hex 32 0x0000112030405060730084000000000000000000000000000000000000000000 ++
+    hex 32 0x0000000000000000230000100000000000000000333333333333333333333333 ++
+    hex 32 0x0000000000000000002400000000100000000000000000000000000000000000
 
-abbrev pub needKeys : List (List ℕ)
-needKeys =
-    (0x10 ∷ []) ∷
-    (0x11 ∷ []) ∷
-    (0x30 ∷ []) ∷
-    (0x40 ∷ []) ∷
-    (0x60 ∷ []) ∷
-    (0x61 ∷ []) ∷
-    (0x80 ∷ []) ∷
-    (0x90 ∷ []) ∷
-    (0x91 ∷ []) ∷
-    (0xA0 ∷ []) ∷
-    (0xC0 ∷ []) ∷
-    (0xE0 ∷ []) ∷
-    []
+unfoldable pub cells4 : List ℕ
+cells4 =
+    hex 32 0x0000000000000000000000001100200000001100110000000000111100001111 ++
+    hex 32 0x0000000000000000000000000000100000000000000000000000000000000000 ++
+    hex 32 0x0000000000000000000000000014140000000000000000000000000000000000 ++
+    hex 32 0x0000000000000000000000000000000000000000000000000000000000000000
 
-abbrev pub beyondKeys : List (List ℕ)
-beyondKeys =
-    (0x0241 ∷ 0x0247 ∷ 0x024A ∷ 0x02C7 ∷ 0x02CB ∷ []) ∷
-    (0x0242 ∷ 0x0249 ∷ 0x024B ∷ 0x02CA ∷ []) ∷
-    (0x030E ∷ 0x038E ∷ []) ∷
-    (0x0440 ∷ 0x0446 ∷ 0x044B ∷ 0x04C7 ∷ 0x04CB ∷ []) ∷
-    (0x0447 ∷ 0x044A ∷ 0x04C6 ∷ 0x04CA ∷ []) ∷
-    []
+unfoldable pub cells8 : List ℕ
+cells8 =
+    hex 32 0x0000000000000000000000000000000000142000000000000000000000000000 ++
+    hex 32 0x0000000000000000000000000011110000002100000000000000000000000000 ++
+    hex 32 0x0000000000000000000000001200000000000000000000000000000000000000 ++
+    hex 32 0x0000000000000000000000000010000000000000000000000000000000000000
+
+unfoldable pub cells12 : List ℕ
+cells12 =
+    hex 32 0x0000000000000000000000000011000000000000000000000000000000000000 ++
+    hex 32 0x0000000000000000000000000000000000000000000000000000000000000000 ++
+    hex 32 0x0011000000000000000000000000000000000000000000000000000000000000
+
+unfoldable pub asked : List ℕ
+asked =
+    hex 2 0x0000 ++
+    hex 2 0x1184 ++
+    hex 2 0x0000 ++
+    hex 2 0x2400 ++
+    hex 2 0x1100 ++
+    hex 2 0x0000 ++
+    hex 2 0x1402 ++
+    hex 2 0x0000 ++
+    hex 2 0x1400 ++
+    hex 2 0x1121 ++
+    hex 2 0x0100 ++
+    hex 2 0x0000 ++
+    hex 2 0x1100 ++
+    hex 2 0x0000 ++
+    hex 2 0x1100
+
+unfoldable pub beyondBits : List ℕ
+beyondBits =
+    hex 32 0x0000000000000000000000000000020000000000040101000000040500010505
 
 abbrev kinds : ℕ
 kinds = 15
 
--- a table of two numbers, as one of their key
-abbrev by : {A : Type 0} → ℕ → (ℕ → ℕ → A) → ℕ → A
-by width f n = f (n / width) (n % width)
+abbrev pub width : ℕ
+width = 32
 
-module _ (kind t w : ℕ) (h : t < 256) (e : w ≡ t) where
-  at-key : {A : Type 0} (f : ℕ → ℕ → A) → by 256 f (kind * 256 + w) ≡ f kind t
-  at-key f =
-      let a : (kind * 256 + w) / 256 ≡ kind = omega arith in
-      let b : (kind * 256 + w) % 256 ≡ t = omega arith in
-      ap (λ (n : ℕ). f n ((kind * 256 + w) % 256)) a ∙ ap (f kind) b
+column-small : (t : ℕ) → t < 256 → columnOf t < width
+unfolding hex hexTo columns slotOf columnIn columnOf
+column-small t h = ltb→lt (columnOf t) width (every-at 256 (λ t. ltb (columnOf t) width) tt t h)
 
-  pub cell-key : (i v : ℕ) → T (each (getD cellKeys i []) (λ n. eqb v (by 256 cellOf n))) → OneOf (getD cellKeys i []) (kind * 256 + w) → v ≡ cellOf kind t
-  cell-key i v right o =
-      eqb→eq v (by 256 cellOf (kind * 256 + w)) (key-at (getD cellKeys i []) (λ n. eqb v (by 256 cellOf n)) right (kind * 256 + w) o) ∙ at-key cellOf
+column-below : (t : ℕ) → t < 256 → (c : ℕ) → c ≡ columnOf t → (c ≡ columnOf t) × (c < width)
+column-below t h c e = (e, rw e (column-small t h))
 
-  pub cell-rest : kind < kinds → NoKey (Unit {0}) cellKeys (kind * 256 + w) → 0 ≡ cellOf kind t
-  unfolding grammar among cellIn cellOf
-  cell-rest g n = eqb→eq 0 (by 256 cellOf (kind * 256 + w)) (rest-at cellKeys 3840 (λ n. eqb 0 (by 256 cellOf n)) tt (kind * 256 + w) (omega arith) n) ∙ at-key cellOf
+module _ (t i : ℕ) (h : t < 256) (e : i ≡ slotOf (t % 128)) where
+  module _ (x : getD columns i 0 < 64) where
+    pub column-plain : t < 128 → (r : ℕ) → r ≡ getD columns i 0 → (r ≡ columnOf t) × (r < width)
+    unfolding columnIn columnOf
+    column-plain p r f = column-below t h r (f ∙ simp (sym e, lt-ltb _ _ x, lt-ltb _ _ p))
 
-  pub beyond-key : (i : ℕ) (v : Bool) → T (each (getD beyondKeys i []) (λ n. agree v (by 256 beyond n))) → OneOf (getD beyondKeys i []) (kind * 256 + w) → v ≡ beyond kind t
-  beyond-key i v right o =
-      agree-eq v (by 256 beyond (kind * 256 + w)) (key-at (getD beyondKeys i []) (λ n. agree v (by 256 beyond n)) right (kind * 256 + w) o) ∙ at-key beyond
+    pub column-unknown : 128 ≤ t → (0 ≡ columnOf t) × (0 < width)
+    unfolding columnIn columnOf
+    column-unknown p = column-below t h 0 (simp (sym e, lt-ltb _ _ x, le-ltb _ _ p))
 
-  pub beyond-rest : kind ≤ 4 → NoKey (Unit {0}) beyondKeys (kind * 256 + w) → false ≡ beyond kind t
-  unfolding beyonds among beyond agree
-  beyond-rest g n = agree-eq false (by 256 beyond (kind * 256 + w)) (rest-at beyondKeys 1280 (λ n. agree false (by 256 beyond n)) tt (kind * 256 + w) (omega arith) n) ∙ at-key beyond
+  pub column-attributed : 64 ≤ getD columns i 0 → (r : ℕ) → r ≡ getD columns i 0 - 64 → (r ≡ columnOf t) × (r < width)
+  unfolding columnIn columnOf
+  column-attributed x r f = column-below t h r (f ∙ simp (sym e, le-ltb _ _ x))
 
-module _ (kind k : ℕ) (h : k < 2) where
-  at-need : by 16 needOf (kind * 16 + k) ≡ needOf kind k
-  at-need =
-      let a : (kind * 16 + k) / 16 ≡ kind = omega arith in
-      let b : (kind * 16 + k) % 16 ≡ k = omega arith in
-      ap (λ (n : ℕ). needOf n ((kind * 16 + k) % 16)) a ∙ ap (needOf kind) b
+module _ (t : ℕ) where
+  pub slot-low : t < 0x17 → (r : ℕ) → r ≡ t → r ≡ slotOf t
+  unfolding slotOf
+  slot-low h r e = e ∙ simp (lt-ltb _ _ h)
 
-  pub need-key : (i v : ℕ) → T (each (getD needKeys i []) (λ n. eqb v (by 16 needOf n))) → OneOf (getD needKeys i []) (kind * 16 + k) → v ≡ needOf kind k
-  need-key i v right o = eqb→eq v (by 16 needOf (kind * 16 + k)) (key-at (getD needKeys i []) (λ n. eqb v (by 16 needOf n)) right (kind * 16 + k) o) ∙ at-need
+  module _ (h : 0x17 ≤ t) where
+    pub slot-gap : t < 0x40 → 0 ≡ slotOf t
+    unfolding slotOf
+    slot-gap g = simp (le-ltb _ _ h, lt-ltb _ _ g)
 
-  pub need-rest : kind < kinds → NoKey (Unit {0}) needKeys (kind * 16 + k) → 0 ≡ needOf kind k
-  unfolding grammar asks needsIn needOf
-  need-rest g n = eqb→eq 0 (by 16 needOf (kind * 16 + k)) (rest-at needKeys 240 (λ n. eqb 0 (by 16 needOf n)) tt (kind * 16 + k) (omega arith) n) ∙ at-need
+    module _ (g : 0x40 ≤ t) where
+      pub slot-high : t < 0x4C → (r : ℕ) → r ≡ t - 0x29 → r ≡ slotOf t
+      unfolding slotOf
+      slot-high k r e = e ∙ simp (le-ltb _ _ h, le-ltb _ _ g, lt-ltb _ _ k)
+
+      pub slot-none : 0x4C ≤ t → 0 ≡ slotOf t
+      unfolding slotOf
+      slot-none k = simp (le-ltb _ _ h, le-ltb _ _ g, le-ltb _ _ k)
+
+pub ruleset slot-laws = (slot-low, slot-gap, slot-high, slot-none)
+
+-- a table of rows, for the kinds from one on
+rows-right : (from many : ℕ) (rows : List ℕ) → T (every many (λ k. every 256 (λ t. eqb (getD rows (k * width + columnOf t) 0) (cellOf (from + k) t))))
+    → (kind t x : ℕ) → from ≤ kind → kind < from + many → kind % 4 ≡ kind - from → t < 256 → x ≡ columnOf t → getD rows (kind % 4 * width + x) 0 ≡ cellOf kind t
+rows-right from many rows right kind t x low high e h c =
+    let f : from + (kind - from) ≡ kind = omega arith in
+    rw (e, c)
+    (eqb→eq (getD rows ((kind - from) * width + columnOf t) 0) (cellOf (from + (kind - from)) t)
+    (every-in many 256 (λ k t. eqb (getD rows (k * width + columnOf t) 0) (cellOf (from + k) t)) right (kind - from) t (omega arith) h)
+    ∙ ap (λ (k : ℕ). cellOf k t) f)
+
+-- a bit of each column, for one kind
+bit-right : (bit : ℕ → ℕ) (kind : ℕ) → T (every 256 (λ t. agree (eqb (bit (getD beyondBits (columnOf t) 0)) 1) (beyond kind t)))
+    → (t : ℕ) → t < 256 → eqb (bit (getD beyondBits (columnOf t) 0)) 1 ≡ beyond kind t
+bit-right bit kind right t h =
+    agree-eq (eqb (bit (getD beyondBits (columnOf t) 0)) 1) (beyond kind t)
+    (every-at 256 (λ t. agree (eqb (bit (getD beyondBits (columnOf t) 0)) 1) (beyond kind t)) right t h)
+
+module _ (kind t x : ℕ) (h : t < 256) (c : x ≡ columnOf t) where
+  pub cell-0 : kind < 4 → getD cells0 (kind % 4 * width + x) 0 ≡ cellOf kind t
+  unfolding hex hexTo columns slotOf columnIn columnOf cells0 grammar among cellIn cellOf
+  cell-0 g = rows-right 0 4 cells0 tt kind t x (omega arith) (omega arith) (omega arith) h c
+
+  pub cell-4 : 4 ≤ kind → kind < 8 → getD cells4 (kind % 4 * width + x) 0 ≡ cellOf kind t
+  unfolding hex hexTo columns slotOf columnIn columnOf cells4 grammar among cellIn cellOf
+  cell-4 l g = rows-right 4 4 cells4 tt kind t x (omega arith) (omega arith) (omega arith) h c
+
+  pub cell-8 : 8 ≤ kind → kind < 12 → getD cells8 (kind % 4 * width + x) 0 ≡ cellOf kind t
+  unfolding hex hexTo columns slotOf columnIn columnOf cells8 grammar among cellIn cellOf
+  cell-8 l g = rows-right 8 4 cells8 tt kind t x (omega arith) (omega arith) (omega arith) h c
+
+  pub cell-12 : 12 ≤ kind → kind < kinds → getD cells12 (kind % 4 * width + x) 0 ≡ cellOf kind t
+  unfolding hex hexTo columns slotOf columnIn columnOf cells12 grammar among cellIn cellOf
+  cell-12 l g = rows-right 12 3 cells12 tt kind t x (omega arith) (omega arith) (omega arith) h c
+
+  pub beyond-unit : kind ≡ 2 → eqb (getD beyondBits x 0 % 2) 1 ≡ beyond kind t
+  unfolding hex hexTo columns slotOf columnIn columnOf beyondBits beyonds among beyond agree
+  beyond-unit k = rw (c, k) (bit-right (λ n. n % 2) 2 tt t h)
+
+  pub beyond-modifier : kind ≡ 3 → eqb (getD beyondBits x 0 / 2 % 2) 1 ≡ beyond kind t
+  unfolding hex hexTo columns slotOf columnIn columnOf beyondBits beyonds among beyond agree
+  beyond-modifier k = rw (c, k) (bit-right (λ n. n / 2 % 2) 3 tt t h)
+
+  pub beyond-action : kind ≡ 4 → eqb (getD beyondBits x 0 / 4) 1 ≡ beyond kind t
+  unfolding hex hexTo columns slotOf columnIn columnOf beyondBits beyonds among beyond agree
+  beyond-action k = rw (c, k) (bit-right (λ n. n / 4) 4 tt t h)
 
 pub cell-none : (kind t : ℕ) → kinds ≤ kind → 0 ≡ cellOf kind t
 unfolding cellOf cellIn grammar
 cell-none kind t h = sym (simp (List·getD-eq-default grammar [] {n = kind} h))
 
+pub beyond-low : (kind t : ℕ) → kind < 2 → false ≡ beyond kind t
+unfolding beyonds beyond among
+beyond-low kind t h =
+    both (eqb kind 0) (λ e. rw (eqb-true kind 0 e)) (λ e. let d = eqb-false kind 0 e in let f : kind ≡ 1 = omega arith in rw f)
+
 pub beyond-high : (kind t : ℕ) → 4 < kind → false ≡ beyond kind t
 unfolding beyond beyonds among
 beyond-high kind t h = sym (simp (List·getD-eq-default beyonds [] {n = kind} h))
+
+pub need-right : (kind k : ℕ) → kind < kinds → k < 2 → getD asked (kind * 2 + k) 0 ≡ needOf kind k
+unfolding hex hexTo asked grammar asks needsIn needOf
+need-right kind k g h =
+    eqb→eq (getD asked (kind * 2 + k) 0) (needOf kind k)
+    (every-in kinds 2 (λ kind k. eqb (getD asked (kind * 2 + k) 0) (needOf kind k)) tt kind k g h)
 
 pub need-none : (kind k : ℕ) → kinds ≤ kind → 0 ≡ needOf kind k
 unfolding needOf needsIn grammar

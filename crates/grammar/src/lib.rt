@@ -1,8 +1,9 @@
 // The grammar of a page as tables, and a row of TLVs held against them.
 use rules::Head;
 ghost use mathlib.Core.Path.{_≡_};
-ghost use Prim.Native.Nat.{_≤_};
+ghost use Prim.Native.Nat.{_≤_, _<_};
 ghost use lib.ListN.{length};
+ghost use Rattle.grammar.specs.Columns.{slotOf, columnOf};
 ghost use Rattle.rules.specs.Tlvs.{tlvs};
 ghost use Rattle.rules.specs.Grammar.{cellOf, needOf, gapOf};
 ghost use Rattle.rules.specs.Grammar.{beyond as Grammar·beyond, misplaced as Grammar·misplaced, met as Grammar·met, lacks as Grammar·lacks};
@@ -22,53 +23,116 @@ pub const COMMAND: usize = 13;
 
 pub const WHOLE: usize = 14;
 
-// How many kinds there are.
+// How many kinds there are, and how many columns of tags the rules tell apart.
 const KINDS: usize = 15;
 
-// Where a tag stands among the parts of a kind of container: in hex the place of its part, and how often that may stand. A key is the
-// kind and the tag; keys next to each other are not in one arm, where they would be a range.
+const WIDTH: usize = 32;
+
+// The column of each tag up to '16' and from '40' to '4B', and 64 more where it is that of the tag with attributes too.
+const COLUMNS: [u8; 35] =
+    *b"\x00\x41\x02\x03\x04\x05\x06\x07\x48\x49\x4a\x0b\x0c\x0d\x4e\x4f\x10\x11\x12\x50\x0f\x53\x10\
+    \x14\x15\x16\x57\x18\x59\x5a\x5b\x1c\x1d\x5e\x5f";
+
+// For each kind a row, four kinds in a table: in hex the place of a column's part, and how often it may stand. A table is made anew
+// where it is read, so each is small.
+const CELLS_0: [u8; 128] =
+    *b"\x00\x00\x00\x00\x00\x00\x00\x00\x00\x00\x00\x00\x00\x00\x00\x00\x00\x00\x00\x00\x00\x00\x00\x00\x00\x00\x00\x00\x00\x00\x00\x00\
+    \x00\x00\x11\x20\x30\x40\x50\x60\x73\x00\x84\x00\x00\x00\x00\x00\x00\x00\x00\x00\x00\x00\x00\x00\x00\x00\x00\x00\x00\x00\x00\x00\
+    \x00\x00\x00\x00\x00\x00\x00\x00\x23\x00\x00\x10\x00\x00\x00\x00\x00\x00\x00\x00\x33\x33\x33\x33\x33\x33\x33\x33\x33\x33\x33\x33\
+    \x00\x00\x00\x00\x00\x00\x00\x00\x00\x24\x00\x00\x00\x00\x10\x00\x00\x00\x00\x00\x00\x00\x00\x00\x00\x00\x00\x00\x00\x00\x00\x00";
+
+const CELLS_4: [u8; 128] =
+    *b"\x00\x00\x00\x00\x00\x00\x00\x00\x00\x00\x00\x00\x11\x00\x20\x00\x00\x00\x11\x00\x11\x00\x00\x00\x00\x00\x11\x11\x00\x00\x11\x11\
+    \x00\x00\x00\x00\x00\x00\x00\x00\x00\x00\x00\x00\x00\x00\x10\x00\x00\x00\x00\x00\x00\x00\x00\x00\x00\x00\x00\x00\x00\x00\x00\x00\
+    \x00\x00\x00\x00\x00\x00\x00\x00\x00\x00\x00\x00\x00\x14\x14\x00\x00\x00\x00\x00\x00\x00\x00\x00\x00\x00\x00\x00\x00\x00\x00\x00\
+    \x00\x00\x00\x00\x00\x00\x00\x00\x00\x00\x00\x00\x00\x00\x00\x00\x00\x00\x00\x00\x00\x00\x00\x00\x00\x00\x00\x00\x00\x00\x00\x00";
+
+const CELLS_8: [u8; 128] =
+    *b"\x00\x00\x00\x00\x00\x00\x00\x00\x00\x00\x00\x00\x00\x00\x00\x00\x00\x14\x20\x00\x00\x00\x00\x00\x00\x00\x00\x00\x00\x00\x00\x00\
+    \x00\x00\x00\x00\x00\x00\x00\x00\x00\x00\x00\x00\x00\x11\x11\x00\x00\x00\x21\x00\x00\x00\x00\x00\x00\x00\x00\x00\x00\x00\x00\x00\
+    \x00\x00\x00\x00\x00\x00\x00\x00\x00\x00\x00\x00\x12\x00\x00\x00\x00\x00\x00\x00\x00\x00\x00\x00\x00\x00\x00\x00\x00\x00\x00\x00\
+    \x00\x00\x00\x00\x00\x00\x00\x00\x00\x00\x00\x00\x00\x10\x00\x00\x00\x00\x00\x00\x00\x00\x00\x00\x00\x00\x00\x00\x00\x00\x00\x00";
+
+const CELLS_12: [u8; 96] =
+    *b"\x00\x00\x00\x00\x00\x00\x00\x00\x00\x00\x00\x00\x00\x11\x00\x00\x00\x00\x00\x00\x00\x00\x00\x00\x00\x00\x00\x00\x00\x00\x00\x00\
+    \x00\x00\x00\x00\x00\x00\x00\x00\x00\x00\x00\x00\x00\x00\x00\x00\x00\x00\x00\x00\x00\x00\x00\x00\x00\x00\x00\x00\x00\x00\x00\x00\
+    \x00\x11\x00\x00\x00\x00\x00\x00\x00\x00\x00\x00\x00\x00\x00\x00\x00\x00\x00\x00\x00\x00\x00\x00\x00\x00\x00\x00\x00\x00\x00\x00";
+
+// What each kind asks of its TLVs, two at most.
+const NEEDS: [u8; 30] = *b"\x00\x00\
+    \x11\x84\
+    \x00\x00\
+    \x24\x00\
+    \x11\x00\
+    \x00\x00\
+    \x14\x02\
+    \x00\x00\
+    \x14\x00\
+    \x11\x21\
+    \x01\x00\
+    \x00\x00\
+    \x11\x00\
+    \x00\x00\
+    \x11\x00";
+
+// For each column 1 where it is beyond the base in a unit, 2 in a modifier and 4 in an action, together.
+const BEYONDS: [u8; 32] =
+    *b"\x00\x00\x00\x00\x00\x00\x00\x00\x00\x00\x00\x00\x00\x00\x02\x00\x00\x00\x00\x00\x04\x01\x01\x00\x00\x00\x04\x05\x00\x01\x05\x05";
+
+// The slot of a tag without attributes among the columns.
+fn slot_of(tag: u8) -> usize
+    ensures { λ r. ⌜ r ≡ slotOf tag ⌝ }
+    ensures { λ r. ⌜ r < 35 ⌝ }
+{
+    if tag < 0x17 {
+        return leaf::wide(tag);
+    }
+    if tag < 0x40 {
+        return 0;
+    }
+    if tag < 0x4C {
+        return leaf::wide(tag - 0x29);
+    }
+    0
+}
+
+// The column of a tag: tags of which the rules say the same have the same, and unknown tags have 0.
+pub fn column_of(tag: u8) -> usize
+    ensures { λ r. ⌜ r ≡ columnOf tag ⌝ }
+    ensures { λ r. ⌜ r < 32 ⌝ }
+{
+    let i = slot_of(tag % 128);
+    let c = COLUMNS[i];
+    if c < 64 {
+        if tag < 0x80 {
+            return leaf::wide(c);
+        }
+        return 0;
+    }
+    leaf::wide(c - 64)
+}
+
+// Where a tag stands among the parts of a kind of container.
 pub fn cell_of(kind: usize, tag: u8) -> u8
     ensures { λ r. ⌜ r ≡ cellOf kind tag ⌝ }
 {
     if KINDS <= kind {
         return 0;
     }
-    let key = kind * 256 + leaf::wide(tag);
-    match key {
-        0x0102 => 0x11,
-        0x0103 => 0x20,
-        0x0104 => 0x30,
-        0x0105 => 0x40,
-        0x0106 => 0x50,
-        0x0107 => 0x60,
-        0x0108 | 0x0188 => 0x73,
-        0x010A | 0x018A => 0x84,
-        0x020B => 0x10,
-        0x0208 | 0x0288 => 0x23,
-        0x0240 | 0x0242 | 0x0244 | 0x0246 | 0x0248 | 0x024A | 0x02C3 | 0x02C6 | 0x02CA => 0x33,
-        0x0241 | 0x0243 | 0x0245 | 0x0247 | 0x0249 | 0x024B | 0x02C5 | 0x02C7 | 0x02CB => 0x33,
-        0x030E | 0x038E => 0x10,
-        0x0309 | 0x0389 => 0x24,
-        0x040C | 0x0412 | 0x0440 | 0x0446 | 0x044B | 0x04C7 | 0x04CB => 0x11,
-        0x0447 | 0x044A | 0x04C6 | 0x04CA => 0x11,
-        0x040E | 0x048E => 0x20,
-        0x050E | 0x058E => 0x10,
-        0x060D | 0x068E => 0x14,
-        0x060E => 0x14,
-        0x0811 => 0x14,
-        0x0812 => 0x20,
-        0x090D | 0x098E => 0x11,
-        0x090E => 0x11,
-        0x0912 => 0x21,
-        0x0A0C => 0x12,
-        0x0B0D => 0x10,
-        0x0C0D => 0x11,
-        0x0E01 | 0x0E81 => 0x11,
-        _ => 0,
+    let i = kind % 4 * WIDTH + column_of(tag);
+    if kind < 4 {
+        return CELLS_0[i];
     }
+    if kind < 8 {
+        return CELLS_4[i];
+    }
+    if kind < 12 {
+        return CELLS_8[i];
+    }
+    CELLS_12[i]
 }
 
-// What a kind asks of its TLVs, first and second: two at most.
+// What a kind asks of its TLVs, first and second.
 pub fn need_of(kind: usize, k: usize) -> u8
     ensures { λ r. ⌜ r ≡ needOf kind k ⌝ }
 {
@@ -78,40 +142,29 @@ pub fn need_of(kind: usize, k: usize) -> u8
     if 1 < k {
         return 0;
     }
-    let key = kind * 16 + k;
-    match key {
-        0x10 => 0x11,
-        0x11 => 0x84,
-        0x30 => 0x24,
-        0x40 => 0x11,
-        0x60 => 0x14,
-        0x61 => 0x02,
-        0x80 => 0x14,
-        0x90 => 0x11,
-        0x91 => 0x21,
-        0xA0 => 0x01,
-        0xC0 => 0x11,
-        0xE0 => 0x11,
-        _ => 0,
-    }
+    let i = kind * 2 + k;
+    NEEDS[i]
 }
 
-// A tag is beyond the base in a kind of container: a unit, a modifier or an action.
+// A tag is beyond the base in a kind of container.
 pub fn beyond(kind: usize, tag: u8) -> bool
     ensures { λ r. ⌜ r ≡ Grammar·beyond kind tag ⌝ }
 {
+    if kind < UNIT {
+        return false;
+    }
     if ACTION < kind {
         return false;
     }
-    let key = kind * 256 + leaf::wide(tag);
-    match key {
-        0x0241 | 0x0247 | 0x024A | 0x02C7 | 0x02CB => true,
-        0x0242 | 0x0249 | 0x024B | 0x02CA => true,
-        0x030E | 0x038E => true,
-        0x0440 | 0x0446 | 0x044B | 0x04C7 | 0x04CB => true,
-        0x0447 | 0x044A | 0x04C6 | 0x04CA => true,
-        _ => false,
+    let c = column_of(tag);
+    let bits = BEYONDS[c];
+    if kind == UNIT {
+        return bits % 2 == 1;
     }
+    if kind == ACTION {
+        return bits / 4 == 1;
+    }
+    bits / 2 % 2 == 1
 }
 
 // The bytes before each TLV of a container: the numbers of '40'.

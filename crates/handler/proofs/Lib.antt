@@ -1,3 +1,2 @@
 pub mod Actions
 pub mod Lists
-pub mod Branches

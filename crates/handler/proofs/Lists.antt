@@ -62,34 +62,6 @@ or-passed Back b e = cc
 or-passed Retry b e = cc
 or-passed (Go start stop) b e = cc
 
--- what an action is told to be, and whether it decides
-module _ (a : Action) where
-  pub decides-pass : a ≡ Pass → false ≡ decides a
-  unfolding decides
-  decides-pass e = simp e
-
-  pub decides-next : a ≡ Next → true ≡ decides a
-  unfolding decides
-  decides-next e = simp e
-
-  pub decides-quit : a ≡ Quit → true ≡ decides a
-  unfolding decides
-  decides-quit e = simp e
-
-  pub decides-back : a ≡ Back → true ≡ decides a
-  unfolding decides
-  decides-back e = simp e
-
-  pub decides-retry : a ≡ Retry → true ≡ decides a
-  unfolding decides
-  decides-retry e = simp e
-
-  pub decides-go : (start stop : ℕ) → a ≡ Go start stop → true ≡ decides a
-  unfolding decides
-  decides-go start stop e = simp e
-
-pub ruleset decide-laws = (decides-pass, decides-next, decides-quit, decides-back, decides-retry, decides-go)
-
 -- the first n modifiers of a row, from the last to the first
 unfoldable pub lastTo : List ℕ → ℕ → Tlvs → ℕ → Action
 lastTo s g row zero = Pass

@@ -179,7 +179,7 @@ impl Machine {
     }
 
     // A page is loaded, and runs where the loader accepts it.
-    pub fn load(self, page: &[u8]) -> Begun
+    pub fn load(mut self, page: &[u8]) -> Begun
         ensures { λ r. ⌜ Meets (load (now (page .entry))) self (loaded (r .loaded)) (r .machine) ⌝ }
     {
         if sound::is_sound(self.state) {
@@ -190,10 +190,9 @@ impl Machine {
                 };
             }
             let Judged::Rejected(class, at) = loader::judge(page) else {
+                self.state = starting::start(self.state, page);
                 return Begun {
-                    machine: Machine {
-                        state: starting::start(self.state, page),
-                    },
+                    machine: self,
                     loaded: Loaded::Started,
                 };
             };
@@ -209,7 +208,7 @@ impl Machine {
     }
 
     // One step.
-    pub fn step(self, out: &mut [u8]) -> Taken
+    pub fn step(mut self, out: &mut [u8]) -> Taken
         ensures { λ r. ⌜ Meets (step (now (out .entry))) self (taken (r .stepped) (now (out .exit)) (referenceAfter (card (r .machine .state)) (r .stepped .outcome))) (r .machine) ⌝ }
     {
         if out.len() < 255 {
@@ -226,8 +225,9 @@ impl Machine {
                 let next = course.state;
                 let ran = course.ran;
                 let outcome = ran.outcome;
+                self.state = next;
                 return Taken {
-                    machine: Machine { state: next },
+                    machine: self,
                     stepped: Stepped { outcome, unit, tag },
                 };
             }
@@ -243,7 +243,7 @@ impl Machine {
     }
 
     // Up to n steps: the count is the steps taken, a refused one too.
-    pub fn run(self, most: usize, out: &mut [u8]) -> Gone
+    pub fn run(mut self, most: usize, out: &mut [u8]) -> Gone
         ensures { λ r. ⌜ Meets (runUpTo most (now (out .entry))) self (ran (r .ran) (now (out .exit)) (referenceAfter (card (r .machine .state)) (r .ran .outcome))) (r .machine) ⌝ }
     {
         if out.len() < 255 {
@@ -254,10 +254,8 @@ impl Machine {
                 let course = running::take_steps(self.state, most, out);
                 let last = course.state;
                 let ran = course.ran;
-                return Gone {
-                    machine: Machine { state: last },
-                    ran,
-                };
+                self.state = last;
+                return Gone { machine: self, ran };
             }
             return no_run(self, Refusal::Call);
         }
@@ -265,7 +263,7 @@ impl Machine {
     }
 
     // A terminal response.
-    pub fn respond(self, response: &[u8], out: &mut [u8]) -> Answered
+    pub fn respond(mut self, response: &[u8], out: &mut [u8]) -> Answered
         ensures { λ r. ⌜ Meets (respond (now (response .entry)) (now (out .entry))) self (responded (r .outcome) (now (out .exit)) (referenceAfter (card (r .machine .state)) (r .outcome))) (r .machine) ⌝ }
     {
         if out.len() < 255 {
@@ -283,10 +281,11 @@ impl Machine {
                     };
                 };
                 let moved = answering::answer(self.state, general, response, after, out);
-                let state = moved.state;
+                let next = moved.state;
                 let outcome = moved.outcome;
+                self.state = next;
                 return Answered {
-                    machine: Machine { state },
+                    machine: self,
                     outcome,
                 };
             }
@@ -302,7 +301,7 @@ impl Machine {
     }
 
     // The page ends: the keep rule, and no page runs.
-    pub fn end(self) -> Settled
+    pub fn end(mut self) -> Settled
         ensures { λ r. ⌜ Meets end self (told (r .told)) (r .machine) ⌝ }
     {
         if sound::is_sound(self.state) {
@@ -312,10 +311,9 @@ impl Machine {
                     told: Told::Undone(Refusal::Call),
                 };
             }
+            self.state = state::rest(self.state);
             return Settled {
-                machine: Machine {
-                    state: state::rest(self.state),
-                },
+                machine: self,
                 told: Told::Done,
             };
         }

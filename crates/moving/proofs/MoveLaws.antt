@@ -12,7 +12,7 @@ use Rattle.pour.specs.Pour.{blank}
 use Rattle.rules.specs.declared.Judged.the-variants.{Accepted}
 use Rattle.rules.specs.declared.Outcome.the-variants.{On, Page, Ended, Refused}
 use Rattle.rules.specs.declared.Refusal.{Refusal}
-use Rattle.rules.specs.declared.Refusal.the-variants.{Syntax, Variable, Anchor, Memory, Security, Disallowed, Buffer, Call, Response, State as StateRefused}
+use Rattle.rules.specs.declared.Refusal.the-variants.{Anchor}
 use Rattle.rules.specs.declared.Target.{Target}
 use Rattle.rules.specs.declared.Target.the-variants.{Unit as UnitAt, Lacking, Other}
 use Rattle.rules.specs.declared.Action.{Action}
@@ -43,48 +43,8 @@ use Rattle.moving.specs.Moved.{Comes, Bounded}
 use Rattle.moving.proofs.Parts.{entry-is, noted-as, noted, placed-is, left-is, lowered-is}
 
 -- the second byte of each code (12.3)
-module _ (why : Refusal) where
-  pub low-syntax : why ≡ Syntax → code why ≡ cond (eqb 1 0) [] (0x6F ∷ 1 ∷ [])
-  unfolding code hex hexTo
-  low-syntax x = simp x
-
-  pub low-variable : why ≡ Variable → code why ≡ cond (eqb 5 0) [] (0x6F ∷ 5 ∷ [])
-  unfolding code hex hexTo
-  low-variable x = simp x
-
-  pub low-anchor : why ≡ Anchor → code why ≡ cond (eqb 2 0) [] (0x6F ∷ 2 ∷ [])
-  unfolding code hex hexTo
-  low-anchor x = simp x
-
-  pub low-memory : why ≡ Memory → code why ≡ cond (eqb 3 0) [] (0x6F ∷ 3 ∷ [])
-  unfolding code hex hexTo
-  low-memory x = simp x
-
-  pub low-security : why ≡ Security → code why ≡ cond (eqb 4 0) [] (0x6F ∷ 4 ∷ [])
-  unfolding code hex hexTo
-  low-security x = simp x
-
-  pub low-disallowed : why ≡ Disallowed → code why ≡ cond (eqb 10 0) [] (0x6F ∷ 10 ∷ [])
-  unfolding code hex hexTo
-  low-disallowed x = simp x
-
-  pub low-buffer : why ≡ Buffer → code why ≡ cond (eqb 0 0) [] (0x6F ∷ 0 ∷ [])
-  unfolding code hex hexTo
-  low-buffer x = simp x
-
-  pub low-call : why ≡ Call → code why ≡ cond (eqb 0 0) [] (0x6F ∷ 0 ∷ [])
-  unfolding code hex hexTo
-  low-call x = simp x
-
-  pub low-response : why ≡ Response → code why ≡ cond (eqb 0 0) [] (0x6F ∷ 0 ∷ [])
-  unfolding code hex hexTo
-  low-response x = simp x
-
-  pub low-state : why ≡ StateRefused → code why ≡ cond (eqb 0 0) [] (0x6F ∷ 0 ∷ [])
-  unfolding code hex hexTo
-  low-state x = simp x
-
-pub ruleset low-laws = (low-syntax, low-variable, low-anchor, low-memory, low-security, low-disallowed, low-buffer, low-call, low-response, low-state)
+pub low-as : (why what : Refusal) (v : List ℕ) → why ≡ what → code what ≡ v → code why ≡ v
+low-as why what v e f = ap code e ∙ f
 
 module _ (why : Refusal) (low : ℕ) (is : code why ≡ cond (eqb low 0) [] (0x6F ∷ low ∷ [])) (xs ys : List Slot) where
   pub note-none : low ≡ 0 → ys ≡ set xs 5 (held 3 []) → ys ≡ set xs 5 (held 3 (code why))

@@ -3,7 +3,7 @@
 use Prim.Native.Nat.{ℕ, _+_, _-_, _≤_, _<_}
 use mathlib.Core.Bool.{false}
 use mathlib.Core.List.{List}
-use mathlib.Core.Path.{_≡_, refl, sym, ap, subst, _∙_}
+use mathlib.Core.Path.{_≡_, sym, ap, subst, _∙_}
 use native.Mathlib.Omega.{arith}
 use lib.ListN.{length}
 use lib.Dec.{eqb}
@@ -16,12 +16,12 @@ use Rattle.rules.specs.declared.Part.{Part}
 use Rattle.rules.specs.declared.Part.the-variants.{Held, Missing}
 use Rattle.rules.specs.Tlv.{headAt}
 use Rattle.rules.specs.Tlvs.{Tlvs, done, past, tlv, tlvs}
-use Rattle.rules.specs.Pieces.{pairAt, Pieces, full, cut, text, variable, pieces}
+use Rattle.rules.specs.Pieces.{pairAt, pieces}
 use Rattle.rules.specs.Shape.{attribute}
 use Rattle.rules.specs.Page.{rowOf, pageHead, pageRow, partIn, pagePart, attributeOf, afterOne, unlock, elementIn, poolIn, pool, element}
 use Rattle.leaf.proofs.Cases.{both}
 use Rattle.tlv.proofs.Rows.{row-done, row-tlv, row-past}
-use Rattle.tlv.proofs.RowBounds.{RowIn, tlvs-in, PiecesIn, pieces-in}
+use Rattle.tlv.proofs.RowBounds.{RowIn, tlvs-in}
 use Rattle.tlv.proofs.PairRows.{pieces-full, pieces-text, pieces-variable, pieces-cut}
 use Rattle.page.specs.declared.Span.{Span}
 use Rattle.page.specs.Span.{spanOf}
@@ -63,10 +63,6 @@ pub ruleset page-part-laws = (page-row-inside, page-part-found)
 abbrev PartIn : ℕ → ℕ → Part → Type 0
 PartIn from end (Held a b) = (from < a) × (a ≤ b) × (b ≤ end)
 PartIn from end Missing = Unit {0}
-
-wider : (from end n : ℕ) → end ≤ n → (p : Part) → PartIn from end p → PartIn 0 n p
-wider from end n h (Held a b) w = omega arith
-wider from end n h Missing w = tt
 
 part-in : (tag from end : ℕ) (row : Tlvs) → RowIn from end row → PartIn from end (partIn tag row)
 unfolding partIn RowIn
@@ -149,19 +145,3 @@ module _ (s : List ℕ) (n at end : ℕ) (w : Part) (inv : elementIn n (pieces f
       element-next y = sym (simp (pieces-text false s at end h (sym is ∙ x), ne-eqb n 0 y)) ∙ inv
 
 pub ruleset element-in-laws = (element-done, element-cut, element-pass, element-this, element-next)
-
-element-in : (n from end : ℕ) (ps : Pieces) → PiecesIn from end ps → PartIn from end (elementIn n ps)
-unfolding elementIn PiecesIn
-element-in n from end full b = tt
-element-in n from end cut b = tt
-element-in n from end (text a z rest) b = both (eqb n 0) (λ e. simp e (omega arith)) (λ e. simp e (element-in (n - 1) from end rest (b .3)))
-element-in n from end (variable k rest) b = element-in n from end rest b
-
-pool-in : (s : List ℕ) (n : ℕ) (p : Part) → pagePart s 0x07 ≡ p → PartIn 0 (length s) (elementIn n (poolIn s p))
-unfolding poolIn elementIn
-pool-in s n (Held a b) e = wider a b (length s) (page-part-held s 0x07 e .1) (elementIn n (pieces false s a b)) (element-in n a b (pieces false s a b) (pieces-in false s a b))
-pool-in s n Missing e = tt
-
-pub element-found : (s : List ℕ) (n : ℕ) {a b : ℕ} → element s n ≡ Held a b → (a ≤ b) × (b ≤ length s)
-unfolding element pool
-element-found s n e = let h = subst (PartIn 0 (length s)) e (pool-in s n (pagePart s 0x07) refl) in omega arith

@@ -6,7 +6,7 @@ use mathlib.Core.List.{List, []}
 use mathlib.Core.Path.{_≡_, refl, sym, _∙_}
 use native.Mathlib.Omega.{arith}
 use lib.ListN.{length, getD}
-use lib.Dec.{ltb, leb, eqb}
+use lib.Dec.{leb}
 use borrow.Author.Tests.{lt-ltb, le-ltb, eq-eqb, ne-eqb, leb-true}
 use Rattle.rules.specs.declared.Head.{Head}
 use Rattle.rules.specs.declared.Head.the-variants.{Tlv, Past}
@@ -15,9 +15,9 @@ use Rattle.rules.specs.declared.Reply.the-variants.{Result, Malformed}
 use Rattle.rules.specs.Bytes.{part}
 use Rattle.rules.specs.Tlv.{headAt}
 use Rattle.rules.specs.Tlvs.{Tlvs, row, tlvs, plain}
-use Rattle.rules.specs.Card.{Slot, free, held, Card}
-use Rattle.rules.specs.Store.{valueBytes, valueType, write}
-use Rattle.rules.specs.Command.{Execute, fills, firstOf, resultIn, reply, textType, optimises, optimised, output, writeSlot}
+use Rattle.rules.specs.Card.{held}
+use Rattle.rules.specs.Store.{valueBytes, valueType}
+use Rattle.rules.specs.Command.{fills, firstOf, resultIn, reply, textType, optimised}
 use Rattle.leaf.proofs.Cases.{both, tests, was}
 use Rattle.tlv.proofs.Rows.{tlvs-more, row-done, row-tlv, row-past}
 
@@ -154,23 +154,3 @@ module _ (r : List ℕ) (o : Bool) (after : Head) where
     output-bytes-whole = rw x refl
 
 pub ruleset output-laws = (output-type-taken, output-bytes-taken, output-type-whole, output-bytes-whole)
-
--- an output is written as the value that it is
-abbrev IsHeld : Slot → Type 0
-IsHeld free = ⊥
-IsHeld (held type bytes) = Unit {0}
-
-optimised-held : (r : List ℕ) (after : Head) → IsHeld (optimised r after)
-unfolding optimised
-optimised-held r (Tlv tag start stop) =
-    both (eqb (plain tag) 0x0D) (λ t. both (ltb start stop) (λ u. simp (t, u) tt) (λ u. simp (t, u) tt)) (λ t. simp t tt)
-optimised-held r Past = tt
-
-written : (c : Card) (n : ℕ) (x : Slot) → IsHeld x → writeSlot c n x ≡ write c n (valueType x) (valueBytes x)
-unfolding writeSlot valueType valueBytes
-written c n free h = absurd h
-written c n (held type bytes) h = refl
-
-pub output-written : (c : Card) (n : ℕ) (r : List ℕ) (x : Execute) (after : Head) → writeSlot c n (output r x after) ≡ write c n (valueType (output r x after)) (valueBytes (output r x after))
-unfolding output
-output-written c n r x after = written c n (cond (optimises x) (optimised r after) (held 0 r)) (both (optimises x) (λ t. simp t (optimised-held r after)) (λ t. simp t tt))

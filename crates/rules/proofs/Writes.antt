@@ -64,12 +64,6 @@ module _ (id : List ℕ) (n : ℕ) where
   unfolding recordFrom
   found-first r rs t = simp t
 
-  found-most : (rs : List Record) → found rs ≤ length rs
-  unfolding recordFrom
-  found-most [] = omega arith
-  found-most (r ∷ rs) =
-      both (isRecord id n r) (λ t. simp t (omega arith)) (λ t. let e = found-cons r rs t in let h = found-most rs in omega arith)
-
   before-found : (rs : List Record) (j : ℕ) → j < found rs → isRecord id n (getD rs j none) ≡ false
   unfolding isRecord
   before-found [] j h = refl

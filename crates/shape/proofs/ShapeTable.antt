@@ -1,45 +1,31 @@
--- The rule of the code's table of shapes: every number in it is what the rules say, by computed tests of its keys and of all that is no key.
+-- The code's table of shapes, and its rule: every entry is what the rules say, by one computed test.
 -- Assumes nothing.
-use Prim.Native.Nat.{ℕ, _<_}
+use Prim.Native.Nat.{ℕ, _^_, _<_}
 use mathlib.Core.List.{List, [], _∷_}
 use mathlib.Core.Path.{_≡_}
-use lib.Dec.{T, eqb, eqb→eq}
+use lib.Dec.{eqb, ltb, eqb→eq, ltb→lt}
 use lib.ListN.{getD}
-use types.Run.{OneOf}
-use Rattle.rules.specs.Bytes.{among}
+use Rattle.rules.specs.Bytes.{among, hexTo, hex}
 use Rattle.rules.specs.Shape.{shapes, numberIn, shapeOf}
-use Rattle.grammar.proofs.Keys.{each, key-at, NoKey, rest-at}
+use Rattle.grammar.specs.Columns.{columns, slotOf, columnIn, columnOf}
+use Rattle.grammar.proofs.Every.{every-at}
 
--- the keys of each arm of the code
-abbrev pub shapeKeys : List (List ℕ)
-shapeKeys =
-    (0x01 ∷ 0x81 ∷ []) ∷
-    (0x0A ∷ 0x8A ∷ []) ∷
-    (0x10 ∷ 0x13 ∷ 0x16 ∷ 0x4A ∷ 0x93 ∷ 0xCA ∷ []) ∷
-    (0x11 ∷ []) ∷
-    (0x12 ∷ []) ∷
-    (0x43 ∷ 0xC3 ∷ []) ∷
-    (0x45 ∷ 0xC5 ∷ []) ∷
-    (0x08 ∷ 0x88 ∷ []) ∷
-    (0x09 ∷ 0x89 ∷ []) ∷
-    (0x41 ∷ 0x4B ∷ 0xCB ∷ []) ∷
-    (0x44 ∷ []) ∷
-    (0x48 ∷ []) ∷
-    (0x47 ∷ 0x49 ∷ 0xC7 ∷ []) ∷
-    (0x46 ∷ 0xC6 ∷ []) ∷
-    (0x40 ∷ []) ∷
-    (0x07 ∷ []) ∷
-    (0x0E ∷ 0x14 ∷ 0x8F ∷ []) ∷
-    (0x0F ∷ 0x8E ∷ []) ∷
-    (0x03 ∷ []) ∷
-    (0x42 ∷ []) ∷
-    (0x02 ∷ 0x04 ∷ 0x06 ∷ 0x0C ∷ 0x95 ∷ []) ∷
-    (0x05 ∷ 0x0B ∷ 0x0D ∷ 0x15 ∷ []) ∷
-    []
+unfoldable pub table : List ℕ
+table =
+    0o000 ∷ 0o120 ∷ 0o010 ∷ 0o011 ∷ 0o010 ∷ 0o010 ∷ 0o010 ∷ 0o050 ∷ 0o322 ∷ 0o421 ∷ 0o220 ∷ 0o010 ∷ 0o010 ∷ 0o010 ∷ 0o060 ∷ 0o060 ∷
+    0o020 ∷ 0o1120 ∷ 0o1220 ∷ 0o010 ∷ 0o641 ∷ 0o021 ∷ 0o014 ∷ 0o720 ∷ 0o1021 ∷ 0o1320 ∷ 0o1533 ∷ 0o022 ∷ 0o1421 ∷ 0o022 ∷ 0o020 ∷ 0o021 ∷ []
 
-pub shape-key : (t i v : ℕ) → T (each (getD shapeKeys i []) (λ n. eqb v (shapeOf n))) → OneOf (getD shapeKeys i []) t → v ≡ shapeOf t
-shape-key t i v right o = eqb→eq v (shapeOf t) (key-at (getD shapeKeys i []) (λ n. eqb v (shapeOf n)) right t o)
+shape-right : (t : ℕ) → t < 256 → getD table (columnOf t) 0 ≡ shapeOf t
+unfolding hex hexTo columns slotOf columnIn columnOf table shapes numberIn shapeOf among
+shape-right t h =
+    eqb→eq (getD table (columnOf t) 0) (shapeOf t)
+    (every-at 256 (λ t. eqb (getD table (columnOf t) 0) (shapeOf t)) tt t h)
 
-pub shape-rest : (t : ℕ) → t < 256 → NoKey (Unit {0}) shapeKeys t → 0 ≡ shapeOf t
-unfolding shapes numberIn shapeOf among
-shape-rest t h n = eqb→eq 0 (shapeOf t) (rest-at shapeKeys 256 (λ n. eqb 0 (shapeOf n)) tt t h n)
+-- the same, as the code reads it
+pub shape-read : (t c : ℕ) → t < 256 → c ≡ columnOf t → getD table c 0 ≡ shapeOf t
+shape-read t c h e = rw e (shape-right t h)
+
+-- every entry is a number of the machine
+pub shape-small : (c : ℕ) → c < 32 → getD table c 0 < 2 ^ 64
+unfolding table
+shape-small c h = ltb→lt (getD table c 0) (2 ^ 64) (every-at 32 (λ c. ltb (getD table c 0) (2 ^ 64)) tt c h)

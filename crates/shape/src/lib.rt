@@ -21,36 +21,49 @@ const SUBSTITUTION: usize = 6;
 // The Simple TLV Indicator of 8.7.3: a fixed byte, then substitution pairs.
 const INDICATOR: usize = 49;
 
-// The shape of a tag, 0 where it is unknown: in octal its kind of container, what follows its fixed bytes, and their count. Tags next to
-// each other are not in one arm, where they would be a range.
+// The shape of the tags of each column, 0 where they are unknown: in octal the kind of container, what follows the fixed bytes, and
+// their count.
+const SHAPES: [u16; 32] = [
+    0o000,
+    0o120,
+    0o010,
+    0o011,
+    0o010,
+    0o010,
+    0o010,
+    0o050,
+    0o322,
+    0o421,
+    0o220,
+    0o010,
+    0o010,
+    0o010,
+    0o060,
+    0o060,
+    0o020,
+    0o1120,
+    0o1220,
+    0o010,
+    0o641,
+    0o021,
+    0o014,
+    0o720,
+    0o1021,
+    0o1320,
+    0o1533,
+    0o022,
+    0o1421,
+    0o022,
+    0o020,
+    0o021,
+];
+
+// The shape of a tag.
 pub fn shape_of(tag: u8) -> usize
     ensures { λ r. ⌜ r ≡ shapeOf tag ⌝ }
 {
-    match tag {
-        0x01 | 0x81 => 0o120,
-        0x0A | 0x8A => 0o220,
-        0x10 | 0x13 | 0x16 | 0x4A | 0x93 | 0xCA => 0o020,
-        0x11 => 0o1120,
-        0x12 => 0o1220,
-        0x43 | 0xC3 => 0o720,
-        0x45 | 0xC5 => 0o1320,
-        0x08 | 0x88 => 0o322,
-        0x09 | 0x89 => 0o421,
-        0x41 | 0x4B | 0xCB => 0o021,
-        0x44 => 0o1021,
-        0x48 => 0o1421,
-        0x47 | 0x49 | 0xC7 => 0o022,
-        0x46 | 0xC6 => 0o1533,
-        0x40 => 0o641,
-        0x07 => 0o050,
-        0x0E | 0x14 | 0x8F => 0o060,
-        0x0F | 0x8E => 0o060,
-        0x03 => 0o011,
-        0x42 => 0o014,
-        0x02 | 0x04 | 0x06 | 0x0C | 0x95 => 0o010,
-        0x05 | 0x0B | 0x0D | 0x15 => 0o010,
-        _ => 0,
-    }
+    let c = grammar::column_of(tag);
+    SHAPES[c] as usize
 }
 
 // The fixed bytes that the attributes of 'C6' add (8.7).

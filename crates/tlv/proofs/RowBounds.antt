@@ -1,19 +1,15 @@
--- The TLVs of a row, and the texts of a value, lie one after another between its ends.
+-- The TLVs of a row lie one after another between its ends.
 -- Assumes nothing.
 use Prim.Native.Nat.{ℕ, zero, suc, _+_, _-_, _≤_, _<_}
 use mathlib.Core.List.{List}
-use mathlib.Core.Bool.{Bool}
 use lib.Dec.{leb}
 use native.Mathlib.Omega.{arith}
 use Rattle.rules.specs.declared.Head.{Head}
 use Rattle.rules.specs.declared.Head.the-variants.{Tlv, Past}
-use Rattle.rules.specs.declared.Pair.{Pair}
-use Rattle.rules.specs.declared.Pair.the-variants.{Text, Number, Broken}
 use Rattle.rules.specs.Tlv.{headAt}
 use Rattle.rules.specs.Tlvs.{Tlvs, done, past, tlv, row, tlvsUpTo, tlvs}
-use Rattle.rules.specs.Pieces.{pairAt, Pieces, full, cut, text, variable, piece, piecesUpTo, pieces}
 use Rattle.leaf.proofs.Cases.{both}
-use Rattle.tlv.proofs.Bounds.{HeadIn, head-in, PairIn, pair-in}
+use Rattle.tlv.proofs.Bounds.{HeadIn, head-in}
 
 unfoldable pub RowIn : ℕ → ℕ → Tlvs → Type 0
 RowIn from end (done p) = Unit {0}
@@ -35,26 +31,3 @@ tlvs-up-to-in (suc n) gap s from at end low =
 pub tlvs-in : (gap : ℕ) (s : List ℕ) (at end : ℕ) → RowIn at end (tlvs gap s at end)
 unfolding tlvs
 tlvs-in gap s at end = tlvs-up-to-in (end - at) gap s at at end (omega arith)
-
-unfoldable pub PiecesIn : ℕ → ℕ → Pieces → Type 0
-PiecesIn from end full = Unit {0}
-PiecesIn from end cut = Unit {0}
-PiecesIn from end (text a b rest) = (from < a) × (a ≤ b) × (b ≤ end) × PiecesIn from end rest
-PiecesIn from end (variable n rest) = PiecesIn from end rest
-
-piece-in : (rest : ℕ → Pieces) (from at end : ℕ) (p : Pair) → from ≤ at → PairIn at end p → ((q : ℕ) → from ≤ q → PiecesIn from end (rest q)) → PiecesIn from end (piece rest p)
-unfolding PiecesIn piece
-piece-in rest from at end (Text a b) low w on = (omega arith, w .1, w .2, on b (omega arith))
-piece-in rest from at end (Number n next) low w on = on next (omega arith)
-piece-in rest from at end Broken low w on = tt
-
-pieces-up-to-in : (n : ℕ) (substituted : Bool) (s : List ℕ) (from at end : ℕ) → from ≤ at → PiecesIn from end (piecesUpTo n substituted s at end)
-unfolding PiecesIn piecesUpTo
-pieces-up-to-in zero substituted s from at end low = tt
-pieces-up-to-in (suc n) substituted s from at end low =
-    both (leb end at) (λ t. simp t tt)
-    (λ t. simp t (piece-in _ from at end (pairAt substituted s at end) low (pair-in substituted s at end) (λ q h. pieces-up-to-in n substituted s from q end h)))
-
-pub pieces-in : (substituted : Bool) (s : List ℕ) (at end : ℕ) → PiecesIn at end (pieces substituted s at end)
-unfolding pieces
-pieces-in substituted s at end = pieces-up-to-in (end - at) substituted s at at end (omega arith)

@@ -11,7 +11,6 @@ use borrow.Author.Tests.{eq-eqb, ne-eqb}
 use Rattle.rules.specs.declared.Head.{Head}
 use Rattle.rules.specs.declared.Head.the-variants.{Tlv, Past}
 use Rattle.rules.specs.declared.Part.{Part}
-use Rattle.rules.specs.declared.Part.the-variants.{Held}
 use Rattle.rules.specs.Tlv.{headAt}
 use Rattle.rules.specs.Tlvs.{tlvs, count}
 use Rattle.rules.specs.Shape.{attribute}
@@ -21,7 +20,6 @@ use Rattle.tlv.proofs.Rows.{row-done, row-tlv, row-past}
 use Rattle.page.specs.declared.Span.{Span}
 use Rattle.page.specs.Span.{spanOf}
 use Rattle.page.proofs.Spans.{Within, span-row, span-within}
-use Rattle.page.proofs.Parts.{row-part-held}
 use Rattle.unit.proofs.Nths.{unit-within}
 
 pub count-found : (s : List ℕ) (r : Span) → r ≡ spanOf s (pageHead s) → (n : ℕ) → n ≡ count 0x0A (tlvs 0 s (r .from) (r .end)) → n ≡ unitCount s
@@ -66,11 +64,7 @@ module _ (s : List ℕ) (k : ℕ) (r : Head) (is : r ≡ unitAt s k) where
 
 pub ruleset unit-laws = (unrecorded-none, unrecorded-held, code-none, code-held)
 
--- where the anchor and the byte codes of a unit lie
-pub anchor-held : (s : List ℕ) (k : ℕ) {a b : ℕ} → anchor s k ≡ Held a b → (a ≤ b) × (b ≤ length s)
-unfolding anchor anchorIn
-anchor-held s k e = row-part-held s 0x0B (length s) (unitAt s k) (unit-within s k) e
-
+-- where the byte codes of a unit lie
 wider : (at end n : ℕ) (h : Head) → end ≤ n → HeadIn at end h → HeadIn at n h
 wider at end n (Tlv tag start stop) le w = omega arith
 wider at end n Past le w = tt

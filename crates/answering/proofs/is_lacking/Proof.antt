@@ -1,6 +1,7 @@
 -- `answering::is_lacking` meets its contract.
 -- Assumes nothing.
-use Rattle.answering.proofs.AnswerLaws.{lacking-laws}
+use Rattle.leaf.proofs.Cases.{told-as}
+use Rattle.answering.specs.Answering.{isLacking}
 use borrow.Author.Needs.{needs}
 use Rattle.answering.proofs.is_lacking.Statement.{statement}
 use Rattle.answering.proofs.is_lacking.Tie as tie
@@ -15,13 +16,16 @@ enum-told-2 : tie.Need-enum-told-2
 enum-told-2 c = search needs
 
 returns : tie.Need-returns
-returns c = search (needs, lacking-laws)
+unfolding isLacking
+returns c = search (needs, told-as isLacking)
 
 returns-2 : tie.Need-returns-2
-returns-2 c = search (needs, lacking-laws)
+unfolding isLacking
+returns-2 c = search (needs, told-as isLacking)
 
 returns-3 : tie.Need-returns-3
-returns-3 c = search (needs, lacking-laws)
+unfolding isLacking
+returns-3 c = search (needs, told-as isLacking)
 
 pub is-lacking-spec : {M : Type 1} → statement M
 is-lacking-spec =

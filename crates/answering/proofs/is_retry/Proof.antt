@@ -1,6 +1,7 @@
 -- `answering::is_retry` meets its contract.
 -- Assumes nothing.
-use Rattle.answering.proofs.AnswerLaws.{again-laws}
+use Rattle.leaf.proofs.Cases.{told-as}
+use Rattle.answering.specs.Answering.{isRetry}
 use borrow.Author.Needs.{needs}
 use Rattle.answering.proofs.is_retry.Statement.{statement}
 use Rattle.answering.proofs.is_retry.Tie as tie
@@ -24,22 +25,28 @@ enum-known-action : tie.Need-enum-known-action
 enum-known-action c = search needs
 
 returns : tie.Need-returns
-returns c = search (needs, again-laws)
+unfolding isRetry
+returns c = search (needs, told-as isRetry)
 
 returns-2 : tie.Need-returns-2
-returns-2 c = search (needs, again-laws)
+unfolding isRetry
+returns-2 c = search (needs, told-as isRetry)
 
 returns-3 : tie.Need-returns-3
-returns-3 c = search (needs, again-laws)
+unfolding isRetry
+returns-3 c = search (needs, told-as isRetry)
 
 returns-4 : tie.Need-returns-4
-returns-4 c = search (needs, again-laws)
+unfolding isRetry
+returns-4 c = search (needs, told-as isRetry)
 
 returns-5 : tie.Need-returns-5
-returns-5 c = search (needs, again-laws)
+unfolding isRetry
+returns-5 c = search (needs, told-as isRetry)
 
 returns-6 : tie.Need-returns-6
-returns-6 c = search (needs, again-laws)
+unfolding isRetry
+returns-6 c = search (needs, told-as isRetry)
 
 pub is-retry-spec : {M : Type 1} → statement M
 is-retry-spec =

@@ -1,6 +1,7 @@
 -- `answering::lacks` meets its contract.
 -- Assumes nothing.
 use Rattle.answering.proofs.AnswerLaws.{lacks-laws}
+use Rattle.answering.specs.Answering.{lacksIn}
 use borrow.Author.Needs.{needs}
 use Rattle.answering.proofs.lacks.Statement.{statement}
 use Rattle.answering.proofs.lacks.Tie as tie
@@ -33,21 +34,27 @@ is-lacking-requires : tie.Need-is-lacking-requires
 is-lacking-requires c κs = search needs
 
 returns : tie.Need-returns
+unfolding lacksIn
 returns c = search (needs, lacks-laws)
 
 returns-2 : tie.Need-returns-2
+unfolding lacksIn
 returns-2 c = search (needs, lacks-laws)
 
 returns-3 : tie.Need-returns-3
+unfolding lacksIn
 returns-3 c = search (needs, lacks-laws)
 
 returns-4 : tie.Need-returns-4
+unfolding lacksIn
 returns-4 c = search (needs, lacks-laws)
 
 returns-5 : tie.Need-returns-5
+unfolding lacksIn
 returns-5 c = search (needs, lacks-laws)
 
 returns-6 : tie.Need-returns-6
+unfolding lacksIn
 returns-6 c = search (needs, lacks-laws)
 
 pub lacks-spec : {M : Type 1} → statement M

@@ -1,6 +1,7 @@
 -- `handler::decides` meets its contract.
 -- Assumes nothing.
-use Rattle.handler.proofs.Lists.{decide-laws}
+use Rattle.leaf.proofs.Cases.{told-as}
+use Rattle.handler.specs.Search.{decides}
 use borrow.Author.Needs.{needs}
 use Rattle.handler.proofs.decides.Statement.{statement}
 use Rattle.handler.proofs.decides.Tie as tie
@@ -24,22 +25,28 @@ enum-told-6 : tie.Need-enum-told-6
 enum-told-6 c = search needs
 
 returns : tie.Need-returns
-returns c = search (needs, decide-laws)
+unfolding decides
+returns c = search (needs, told-as decides)
 
 returns-2 : tie.Need-returns-2
-returns-2 c = search (needs, decide-laws)
+unfolding decides
+returns-2 c = search (needs, told-as decides)
 
 returns-3 : tie.Need-returns-3
-returns-3 c = search (needs, decide-laws)
+unfolding decides
+returns-3 c = search (needs, told-as decides)
 
 returns-4 : tie.Need-returns-4
-returns-4 c = search (needs, decide-laws)
+unfolding decides
+returns-4 c = search (needs, told-as decides)
 
 returns-5 : tie.Need-returns-5
-returns-5 c = search (needs, decide-laws)
+unfolding decides
+returns-5 c = search (needs, told-as decides)
 
 returns-6 : tie.Need-returns-6
-returns-6 c = search (needs, decide-laws)
+unfolding decides
+returns-6 c = search (needs, told-as decides)
 
 pub decides-spec : {M : Type 1} → statement M
 decides-spec =

@@ -1,6 +1,8 @@
 -- `moving::code_low` meets its contract.
 -- Assumes nothing.
-use Rattle.moving.proofs.MoveLaws.{low-laws}
+use Rattle.moving.proofs.MoveLaws.{low-as}
+use Rattle.rules.specs.Bytes.{hex, hexTo}
+use Rattle.rules.specs.Numbers.{code}
 use borrow.Author.Needs.{needs}
 use Rattle.moving.proofs.code_low.Statement.{statement}
 use Rattle.moving.proofs.code_low.Tie as tie
@@ -36,34 +38,44 @@ enum-told-10 : tie.Need-enum-told-10
 enum-told-10 c = search needs
 
 returns : tie.Need-returns
-returns c = search (needs, low-laws)
+unfolding code hex hexTo
+returns c = search (needs, low-as)
 
 returns-2 : tie.Need-returns-2
-returns-2 c = search (needs, low-laws)
+unfolding code hex hexTo
+returns-2 c = search (needs, low-as)
 
 returns-3 : tie.Need-returns-3
-returns-3 c = search (needs, low-laws)
+unfolding code hex hexTo
+returns-3 c = search (needs, low-as)
 
 returns-4 : tie.Need-returns-4
-returns-4 c = search (needs, low-laws)
+unfolding code hex hexTo
+returns-4 c = search (needs, low-as)
 
 returns-5 : tie.Need-returns-5
-returns-5 c = search (needs, low-laws)
+unfolding code hex hexTo
+returns-5 c = search (needs, low-as)
 
 returns-6 : tie.Need-returns-6
-returns-6 c = search (needs, low-laws)
+unfolding code hex hexTo
+returns-6 c = search (needs, low-as)
 
 returns-7 : tie.Need-returns-7
-returns-7 c = search (needs, low-laws)
+unfolding code hex hexTo
+returns-7 c = search (needs, low-as)
 
 returns-8 : tie.Need-returns-8
-returns-8 c = search (needs, low-laws)
+unfolding code hex hexTo
+returns-8 c = search (needs, low-as)
 
 returns-9 : tie.Need-returns-9
-returns-9 c = search (needs, low-laws)
+unfolding code hex hexTo
+returns-9 c = search (needs, low-as)
 
 returns-10 : tie.Need-returns-10
-returns-10 c = search (needs, low-laws)
+unfolding code hex hexTo
+returns-10 c = search (needs, low-as)
 
 pub code-low-spec : {M : Type 1} → statement M
 code-low-spec =
