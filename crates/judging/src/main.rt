@@ -1,7 +1,8 @@
 // Reads pages as lines of hex, judges each, and prints its number and offset as `load 4 21`, or `load 0 -` for an accepted page.
 // '-' is a page of no bytes, and a line that is no hex is answered by '?'.
 use libc::STDIN_FILENO;
-use libc::STDOUT_FILENO;
+use lines::say;
+use lines::say_number;
 use rules::Judged;
 
 // What a turn leaves of a line that goes on, or that the input ended.
@@ -11,16 +12,15 @@ enum Turn {
 }
 
 fn show(j: Judged) {
-    io::write_all(STDOUT_FILENO, b"load ");
+    say(b"load");
     match j {
         Judged::Accepted => {
-            io::write_all(STDOUT_FILENO, b"0 -\n");
+            say(b" 0 -\n");
         }
         Judged::Rejected(class, offset) => {
-            io::print_decimal(STDOUT_FILENO, class as u64);
-            io::write_all(STDOUT_FILENO, b" ");
-            io::print_decimal(STDOUT_FILENO, offset as u64);
-            io::write_all(STDOUT_FILENO, b"\n");
+            say_number(class as u64);
+            say_number(offset as u64);
+            say(b"\n");
         }
     }
 }
@@ -28,7 +28,7 @@ fn show(j: Judged) {
 // Judges the page of a line. One that is too long for a page is judged by its length alone.
 fn answer(line: &[u8]) {
     if !lines::is_bytes(line) {
-        io::write_all(STDOUT_FILENO, b"?\n");
+        say(b"?\n");
         return;
     }
     let mut page = io::large_buffer();

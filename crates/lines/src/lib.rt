@@ -1,5 +1,6 @@
-// Lines of the host's protocol: words, hex in either case, decimal numbers, and bytes as hex.
+// What the programs read and write as text: words, hex in either case, decimal numbers, and bytes as hex.
 use leaf::wide;
+use libc::STDOUT_FILENO;
 ghost use mathlib.Core.Path.{_≡_};
 ghost use Prim.Native.Nat.{_+_, _*_, _≤_, _/_};
 ghost use lib.ListN.{length, drop};
@@ -178,4 +179,15 @@ pub fn hex(bytes: &[u8], out: &mut [u8]) -> usize
         i += 1;
     }
     2 * bytes.len()
+}
+
+// Text, on standard output.
+pub fn say(text: &[u8]) {
+    io::write_all(STDOUT_FILENO, text);
+}
+
+// A number in decimal, after a blank.
+pub fn say_number(n: u64) {
+    say(b" ");
+    io::print_decimal(STDOUT_FILENO, n);
 }

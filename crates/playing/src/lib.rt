@@ -2,7 +2,8 @@
 // Kind 1 is a page, kind 2 a terminal response. After a record that is answered 0 it takes up to 1,000 steps.
 // A record that is cut short or of another kind is named with its place in the input, and nothing after it is read.
 use libc::STDIN_FILENO;
-use libc::STDOUT_FILENO;
+use lines::say;
+use lines::say_number;
 use machine::Machine;
 use rules::Loaded;
 use rules::Outcome;
@@ -21,16 +22,6 @@ struct Host {
 struct Turn {
     host: Host,
     read: usize,
-}
-
-fn say(text: &[u8]) {
-    io::write_all(STDOUT_FILENO, text);
-}
-
-// A number in decimal, after a blank.
-fn say_number(n: u64) {
-    say(b" ");
-    io::print_decimal(STDOUT_FILENO, n);
 }
 
 // A hex digit in upper case.
@@ -78,7 +69,7 @@ fn ends(outcome: Outcome) -> bool {
         Outcome::Command(n) => false,
         Outcome::Page => true,
         Outcome::Ended => true,
-        Outcome::Refused(why) => packing::number(why) < 32,
+        Outcome::Refused(why) => packing::writes(outcome),
     }
 }
 

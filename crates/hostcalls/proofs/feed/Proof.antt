@@ -2,52 +2,51 @@
 -- Assumes nothing.
 use Prim.Native.Nat.{_-_, _≤_}
 use lib.ListN.{length}
-use Rattle.hostcalls.proofs.CallLaws.{part-laws}
 use borrow.Author.Needs.{needs}
 use Rattle.hostcalls.proofs.feed.Statement.{statement}
 use Rattle.hostcalls.proofs.feed.Tie as tie
 
 abbrev Inv-loop : tie.InvT-loop
-Inv-loop chunk line₀ machine₀ held₀ at₀ line machine held at = at ≤ length chunk
+Inv-loop chunk line₀ bytes₀ machine₀ held₀ at₀ line bytes machine held at = at ≤ length chunk
 
 abbrev μ-loop : tie.MeasureT-loop
-μ-loop chunk line₀ machine₀ held₀ at₀ line machine held at = length chunk - at
+μ-loop chunk line₀ bytes₀ machine₀ held₀ at₀ line bytes machine held at = length chunk - at
 
 loop-holds : tie.Need-loop-holds Inv-loop μ-loop
-loop-holds c = search (needs, part-laws)
+loop-holds c = search needs
 
 find-requires : tie.Need-find-requires Inv-loop μ-loop
-find-requires c κs = search (needs, part-laws)
+find-requires c κs = search needs
 
 sub-add : tie.Need-sub-add Inv-loop μ-loop
-sub-add c = search (needs, part-laws)
+sub-add c = search needs
 
 part-add-start : tie.Need-part-add-start Inv-loop μ-loop
-part-add-start c = search (needs, part-laws)
+part-add-start c = search needs
 
 part-add-end : tie.Need-part-add-end Inv-loop μ-loop
-part-add-end c = search (needs, part-laws)
+part-add-end c = search needs
 
 add-requires : tie.Need-add-requires Inv-loop μ-loop
-add-requires c κs = search (needs, part-laws)
+add-requires c κs = search needs
 
 returns : tie.Need-returns Inv-loop μ-loop
-returns c = search (needs, part-laws)
+returns c = search needs
 
 close-requires : tie.Need-close-requires Inv-loop μ-loop
-close-requires c κs = search (needs, part-laws)
+close-requires c κs = search needs
 
 add-at : tie.Need-add-at Inv-loop μ-loop
-add-at c = search (needs, part-laws)
+add-at c = search needs
 
 loop-less : tie.Need-loop-less Inv-loop μ-loop
-loop-less c = search (needs, part-laws)
+loop-less c = search needs
 
 loop-again : tie.Need-loop-again Inv-loop μ-loop
-loop-again c = search (needs, part-laws)
+loop-again c = search needs
 
 returns-2 : tie.Need-returns-2 Inv-loop μ-loop
-returns-2 c = search (needs, part-laws)
+returns-2 c = search needs
 
 pub feed-spec : {M : Type 1} → statement M
 feed-spec =

@@ -2,10 +2,9 @@
 -- Assumes nothing.
 use Prim.Native.Nat.{ℕ, _-_, _≤_}
 use mathlib.Core.List.{List}
-use mathlib.Core.Path.{_≡_, sym, ap}
+use mathlib.Core.Path.{_≡_, ap}
 use native.Mathlib.Omega.{arith}
 use lib.ListN.{length, take, drop, getD, length-take, length-drop}
-use lib.Seq.{length-take-le}
 use Rattle.rules.specs.Bytes.{part}
 use Rattle.word.specs.Word.{wordIn}
 
@@ -20,7 +19,4 @@ pub word-fits : (s r : List ℕ) → r ≡ wordIn s → length s ≡ 66 → leng
 unfolding wordIn
 word-fits s r e l = let f : length r ≡ length (wordIn s) = ap length e in let g = take-drop-fits s (getD s 0 0) 1 in omega (arith, f, g)
 
-pub front-counts : (s : List ℕ) (n : ℕ) → n ≤ length s → n ≡ length (take n s)
-front-counts s n h = sym (length-take-le n s h)
-
-pub ruleset part-laws = (part-fits, word-fits, front-counts)
+pub ruleset part-laws = (part-fits, word-fits)
