@@ -30,7 +30,8 @@ use Rattle.machine.specs.declared.Machine.{Machine}
 use Rattle.parts.specs.declared.Course.{Course}
 use Rattle.machine.specs.declared.Gone.{Gone}
 use Rattle.machine.specs.Meets.{Meets}
-use Rattle.course.specs.Course.{Ready, Counts}
+use Rattle.stepping.specs.Took.{Ready}
+use Rattle.running.specs.Course.{Counts}
 use Rattle.machine.proofs.Parts.{sound-is, ready-is, runs-fine, ready-runs, ready-empty}
 use Rattle.machine.proofs.CallLaws.{same-meets, step-taken}
 

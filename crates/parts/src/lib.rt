@@ -1,7 +1,6 @@
-// What a byte code does to the parts of a state, each lent by itself: endings, refusals, the history, a command that goes out.
+// What a byte code does to the parts of a state, each lent by itself: endings, the history, the areas, a command that goes out.
 use rules::Outcome;
 use rules::Ran;
-use rules::Refusal;
 use rules::Target;
 use state::State;
 ghost use mathlib.Core.Path.{_≡_};
@@ -10,8 +9,6 @@ ghost use mathlib.Core.List.{_∷_, []};
 ghost use Prim.Native.Nat.{ℕ, _≤_, _<_};
 ghost use lib.ListN.{length, take, set};
 ghost use Rattle.rules.specs.declared.Judged.the-variants.{Accepted};
-ghost use Rattle.rules.specs.declared.Outcome.the-variants.{Refused};
-ghost use Rattle.rules.specs.Numbers.{code};
 ghost use Rattle.rules.specs.Bytes.{part};
 ghost use Rattle.rules.specs.Loader.{judge};
 ghost use Rattle.rules.specs.Tlvs.{tlvs};
@@ -152,42 +149,6 @@ pub fn send_command<'a>(
     word::hold(hand, text);
     pour::pour(out, 0, text);
     n
-}
-
-// The page ends by a refusal: '05' says which.
-pub fn refuse_page<'a>(
-    environment: &mut [u8; 16640],
-    temporary: &mut [u8; 16640],
-    permanent: &'a [u8; 17920],
-    trail: &'a [u8; 1058],
-    guard: &mut [u8; 18],
-    wanted: &'a [u8; 66],
-    page: &'a [u8; 4096],
-    len: usize,
-    why: Refusal,
-    count: usize,
-) -> Course
-    ensures { λ r. ⌜ r ≡ record { state = laid (blank 4096) 0 (now (environment .exit)) (now (temporary .exit)) (now (permanent .entry)) (now (trail .entry)) (now (guard .exit)) (blank 257) (now (wanted .entry)) 0 0; ran = record { outcome = Refused why; count = count } } ⌝ }
-    ensures { λ _. ⌜ slots (now (temporary .exit)) ≡ keptBy (take len (now (page .entry))) (keepList (take len (now (page .entry)))) (slots (now (temporary .entry))) ⌝ }
-    ensures { λ _. ⌜ (tidySlots (now (temporary .entry)) ≡ true → tidySlots (now (temporary .exit)) ≡ true) ⌝ }
-    ensures { λ _. ⌜ (length (bytesOf (take len (now (page .entry))) (password (take len (now (page .entry))))) ≤ 16 → guardOf (now (guard .exit)) ≡ guardBy (take len (now (page .entry))) (password (take len (now (page .entry))))) ⌝ }
-    ensures { λ _. ⌜ (tidyGuard (now (guard .entry)) ≡ true → tidyGuard (now (guard .exit)) ≡ true) ⌝ }
-    ensures { λ _. ⌜ slots (now (environment .exit)) ≡ set (slots (now (environment .entry))) 5 (held 3 (code why)) ⌝ }
-    ensures { λ _. ⌜ (tidySlots (now (environment .entry)) ≡ true → tidySlots (now (environment .exit)) ≡ true) ⌝ }
-{
-    moving::note_refusal(environment, why);
-    end_page(
-        environment,
-        temporary,
-        permanent,
-        trail,
-        guard,
-        wanted,
-        page,
-        len,
-        Outcome::Refused(why),
-        count,
-    )
 }
 
 // The reference wanted, from a place of the page up to another.

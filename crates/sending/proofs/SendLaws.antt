@@ -1,27 +1,23 @@
 -- The ways through an Execute USAT Command, in the shape of what their proofs need.
 -- Assumes nothing.
-use Prim.Native.Nat.{ℕ, _-_, _≤_, _<_}
-use mathlib.Core.Bool.{true, false, cond}
+use Prim.Native.Nat.{ℕ, _-_, _≤_}
+use mathlib.Core.Bool.{false}
 use mathlib.Core.List.{List}
 use mathlib.Core.Path.{_≡_, refl, sym, _∙_}
 use native.Mathlib.Omega.{arith}
 use lib.ListN.{length, take, drop, length-take}
 use lib.Seq.{take-append-seam}
 use lib.Dec.{ltb}
-use borrow.Author.Tests.{lt-ltb, le-ltb, ltb-false}
+use borrow.Author.Tests.{le-ltb, ltb-false}
 use Rattle.pour.specs.Pour.{poured}
 use Rattle.pour.proofs.PourLaws.{length-poured}
 use Rattle.leaf.proofs.Cases.{both}
 use Rattle.rules.specs.Store.{longest}
-use Rattle.rules.specs.declared.Judged.the-variants.{Accepted}
 use Rattle.rules.specs.declared.Outcome.the-variants.{Command}
-use Rattle.rules.specs.declared.Refusal.{Refusal}
-use Rattle.rules.specs.declared.Refusal.the-variants.{Memory}
 use Rattle.rules.specs.Bytes.{part}
-use Rattle.rules.specs.Loader.{judge}
 use Rattle.rules.specs.Card.{Card, byCode, withRun, inHand}
 use Rattle.rules.specs.Command.{executeOf, command}
-use Rattle.rules.specs.Step.{refuses, does, applied, moved, send, sending}
+use Rattle.rules.specs.Step.{moved, send, sending}
 use Rattle.rules.specs.Calls.{over, bufferAfter}
 use Rattle.variable.specs.View.{view}
 use Rattle.value.specs.Into.{into}
@@ -31,8 +27,6 @@ use Rattle.word.proofs.Parts.{hand-laid, laid-hand}
 use Rattle.state.specs.declared.State.{State}
 use Rattle.state.specs.State.{Is}
 use Rattle.state.proofs.Changes.{new-place}
-use Rattle.moving.specs.declared.Moved.{Moved}
-use Rattle.moving.specs.Moved.{Comes}
 use Rattle.setting.proofs.ComplaintLaws.{part-start}
 use Rattle.storing.proofs.StoreLaws.{page-is, view-is}
 use Rattle.sending.specs.Sent.{Sends}
@@ -55,20 +49,8 @@ module _ (m : State) (c : Card) (is : Is m c) where
         buffer = e;
       }
 
-  -- a refusal leaves the lent buffer as it was
-  pub refused-out : judge (c .run .page) ≡ Accepted → (before : List ℕ) (o : Moved) (why : Refusal) → ((d : Card) → Is m d → judge (d .run .page) ≡ Accepted → Comes o (applied d (refuses why))) → Sends o before before (applied c (refuses why))
-  unfolding applied bufferAfter
-  refused-out ok before o why f = record { comes = f c is ok; buffer = refl }
-
-  module _ (ok : judge (c .run .page) ≡ Accepted) (tag start stop : ℕ) (before : List ℕ) (o : Moved) (s : List ℕ) (p : s ≡ take (m .len) (m .page)) where
-    pub command-is : command (view s (m .environment) (m .temporary) (m .permanent)) (executeOf s tag start stop) ≡ command c (executeOf (c .run .page) tag start stop)
-    command-is = rw (← view-is m c is s p, page-is m c is s p) (bare-command c (executeOf (c .run .page) tag start stop))
-
-    module _ (n : ℕ) (e : n ≡ length (command (view s (m .environment) (m .temporary) (m .permanent)) (executeOf s tag start stop))) where
-      pub issue-long : 255 < n → ((d : Card) → Is m d → judge (d .run .page) ≡ Accepted → Comes o (applied d (refuses Memory))) → Sends o before before (applied c (cond (ltb 255 (length (command c (executeOf (c .run .page) tag start stop)))) (refuses Memory) (does c (send (command c (executeOf (c .run .page) tag start stop))))))
-      issue-long h f =
-          let k : ltb 255 (length (command c (executeOf (c .run .page) tag start stop))) ≡ true = rw (← command-is, ← e) (lt-ltb _ _ h) in
-          rw k (refused-out ok before o Memory f)
+  pub command-is : (tag start stop : ℕ) (s : List ℕ) → s ≡ take (m .len) (m .page) → command (view s (m .environment) (m .temporary) (m .permanent)) (executeOf s tag start stop) ≡ command c (executeOf (c .run .page) tag start stop)
+  command-is tag start stop s p = rw (← view-is m c is s p, page-is m c is s p) (bare-command c (executeOf (c .run .page) tag start stop))
 
 pub command-counts : (b bytes w : List ℕ) → bytes ≡ into b w → length b ≡ 256 → 256 ≡ length bytes
 unfolding into

@@ -29,11 +29,14 @@ part-of-requires : tie.Need-part-of-requires
 part-of-requires c κs = search needs
 
 hold-requires : tie.Need-hold-requires
-hold-requires c κs = search (needs, command-bounds, bound-laws)
+hold-requires c κs =
+    let short = c .before .before .before .if1 .left in
+    command-fits _ _ _ (omega arith) (c .before .part-of .ensures)
 
 pour-requires : tie.Need-pour-requires
 pour-requires c κs =
-    let short : length (c .before .before .before .part-of .result .now) ≤ 255 = command-fits _ _ _ (c .before .before .before .before .before .if1 .left) (c .before .before .before .part-of .ensures) in
+    let small = c .before .before .before .before .before .if1 .left in
+    let short : length (c .before .before .before .part-of .result .now) ≤ 255 = command-fits _ _ _ (omega arith) (c .before .before .before .part-of .ensures) in
     let room = c .before .before .before .before .before .before .before .before .before .before .pre .2 in
     omega arith
 

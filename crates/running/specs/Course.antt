@@ -1,20 +1,10 @@
 -- A run of steps, past the tests of 32, 35 and 33.
 use Prim.Native.Nat.{ℕ}
-use mathlib.Core.Bool.{true}
 use mathlib.Core.Path.{_≡_}
 use mathlib.Core.List.{List}
-use Rattle.rules.specs.Card.{isEmpty}
 use Rattle.rules.specs.Calls.{bufferAfter, Counted}
-use Rattle.rules.proofs.StaysCardStep.{Running}
-use Rattle.state.specs.declared.State.{State}
-use Rattle.state.specs.State.{Is, card}
+use Rattle.state.specs.State.{Is}
 use Rattle.parts.specs.declared.Course.{Course}
-
--- a page runs and awaits no response
-pub record Ready (m : State) : Type 0 where
-  pub is : Is m (card m)
-  pub runs : Running (card m)
-  pub idle : isEmpty (card m .run .hand) ≡ true
 
 -- what a run comes to, with the lent buffer before and after it
 pub record Counts (r : Course) (before after : List ℕ) (k : Counted) : Type 0 where

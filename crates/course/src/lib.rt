@@ -1,1 +1,0 @@
-// What a run of steps comes to: definitions and laws, no code.
