@@ -1,7 +1,7 @@
 -- What an accepted page holds: the sizes of its names, its units and their places.
 -- Assumes nothing.
 use mathlib.Core.Path.{◌≡◌, refl, sym, ◌∙◌}
-use mathlib.Core.Bool.{true, false, cond, true≢false, false≢true}
+use mathlib.Core.Bool.{Bool, true, false, cond, true≢false, false≢true}
 use mathlib.Core.List.{List}
 use Prim.Native.Nat.{ℕ, ◌+◌, ◌-◌, ◌/◌, ◌%◌, ◌≤◌, ◌<◌}
 use native.Mathlib.Nat.{add-zero}
@@ -215,13 +215,21 @@ module _ (s : List ℕ) where
       (λ u. rw u (units_fine (k - 1) end from (cell_of page_kind tag) stop rest l w.2 i.1))))
       (λ q. rw q (units_fine k end from (cell_of page_kind tag) stop rest l w.2 i.1))
 
+  -- the same by whether the first TLV of the row is a byte code
+  entry_first :
+    (b : Bool) (at : ℕ) (rest : Tlvs)
+    → is_place_in (entry_in rest) rest ≡ true
+    → cond b (cond (eqb (cond b at (entry_in rest)) at) true (is_place_in (cond b at (entry_in rest)) rest)) (is_place_in (cond b at (entry_in rest)) rest) ≡ true
+  entry_first true at rest h = rw (eq-eqb at at refl) refl
+  entry_first false at rest h = h
+
   -- the first byte code of a unit, or its end, is a place
   entry_place : (left from last : ℕ) (r : Tlvs) → Sound s left unit_kind from last r → is_place_in (entry_in r) r ≡ true
   unfolding is_place_in entry_in
   entry_place left from last (done p) h = eq-eqb p p refl
   entry_place left from last (past p) h = absurd (never_past s left unit_kind from last p h)
   entry_place left from last (tlv tag at start stop rest) h =
-      both (is_code tag) (λ q. rw (q, eq-eqb at at refl)) (λ q. rw q (entry_place left from (cell_of unit_kind tag) rest (sound_tlv s left unit_kind from last tag at start stop rest h).1))
+      entry_first (is_code tag) at rest (entry_place left from (cell_of unit_kind tag) rest (sound_tlv s left unit_kind from last tag at start stop rest h).1)
 
   -- behind a byte code stands another one, or the unit's end
   start_place : (end left from last at : ℕ) (r : Tlvs) → 51 ≤ last → Row s end at r → Sound s left unit_kind from last r → is_place_in at r ≡ true
