@@ -1,4 +1,6 @@
 // Lengths in the shortest BER form.
+#![tactic(auto)]
+
 ghost use Rattle.std.specs.Prelude.{◌≡◌};
 ghost use Rattle.ber.specs.Form.{form_of};
 

@@ -1,4 +1,6 @@
 // Bytes put one after another into what is lent. Each function answers the place after them.
+#![tactic(auto)]
+
 ghost use Rattle.std.specs.Prelude.{◌≡◌, ◌∷◌, ◌+◌, ◌≤◌, length};
 ghost use Rattle.rules.specs.Value.{shortest};
 ghost use Rattle.pour.specs.Pour.{poured};

@@ -1,4 +1,6 @@
 // Bytes read as numbers and compared.
+#![tactic(auto)]
+
 ghost use Rattle.std.specs.Prelude.{◌≡◌, ◌+◌, ◌*◌, ◌<◌};
 ghost use Rattle.rules.specs.Bytes.{same, among};
 

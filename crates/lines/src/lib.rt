@@ -1,4 +1,6 @@
 // What the programs read and write as text: words, hex in either case, decimal numbers, and bytes as hex.
+#![tactic(auto)]
+
 ghost use Rattle.std.specs.Prelude.{◌≡◌, ◌+◌, ◌*◌, ◌≤◌, ◌/◌, length, drop};
 ghost use Rattle.io.specs.Counts.{IsPrefixLen};
 ghost use Rattle.lines.specs.Hex.{digit_of, is_hex, is_bytes, byte_of, unhexed, number_of, hexed};

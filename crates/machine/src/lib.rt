@@ -13,7 +13,7 @@ use rules::{Head, Judged, Loaded, Outcome, Ran, Refusal, Reply, Shown, Stepped, 
 use state::State;
 
 // A card's state, handed from call to call.
-#[derive(Drop)]
+#[derive(Clone, Copy)]
 pub struct Machine {
     pub state: State,
 }

@@ -4,6 +4,8 @@
 //     bits 8 to 15    the outcome of a step, a run or a response; the type of a value read
 //     bits 16 to 31   the offset of a refused load; the command's length; the length of a value read
 //     bits 32 to 63   the count of a run; of a step the unit, and its tag from bit 40 on
+#![tactic(auto)]
+
 ghost use Rattle.std.specs.Prelude.{◌≡◌, List, ℕ, ◌+◌, ◌*◌, ◌<◌, ltb};
 ghost use Rattle.rules.specs.Numbers.{number as Numbers·number, offset, outcome_number};
 ghost use Rattle.rules.specs.Calls.{told as Calls·told, loaded as Calls·loaded, taken, ran as Calls·ran, responded, shown as Calls·shown};

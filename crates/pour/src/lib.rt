@@ -1,4 +1,6 @@
 // Bytes copied into what is lent. Each loop stands here once: a copy at any length is a part of a slice lent to it.
+#![tactic(auto)]
+
 ghost use Rattle.std.specs.Prelude.{◌≡◌, ◌+◌, ◌≤◌, length};
 ghost use Rattle.pour.specs.Pour.{blank, poured, padded, slid, zeros};
 

@@ -1,4 +1,6 @@
 // The permanent area on lent arrays (clause 6.1.2): a record is known by its number and its Service ID together.
+#![tactic(auto)]
+
 ghost use Rattle.std.specs.Prelude.{◌≡◌, true, false, cond, ◌+◌, ◌*◌, ◌≤◌, ◌<◌, length, get_or, set, drop, ltb};
 ghost use Rattle.rules.specs.Card.{Record, none, stored};
 ghost use Rattle.rules.specs.Store.{is_record, record_from, free_from, place_for, value_of, value_bytes, value_type, record_room};

@@ -217,9 +217,9 @@ module _ (s : List ℕ) where
 
   -- the same by whether the first TLV of the row is a byte code
   entry_first :
-    (b : Bool) (at : ℕ) (rest : Tlvs)
-    → is_place_in (entry_in rest) rest ≡ true
-    → cond b (cond (eqb (cond b at (entry_in rest)) at) true (is_place_in (cond b at (entry_in rest)) rest)) (is_place_in (cond b at (entry_in rest)) rest) ≡ true
+      (b : Bool) (at : ℕ) (rest : Tlvs)
+      → is_place_in (entry_in rest) rest ≡ true
+      → cond b (cond (eqb (cond b at (entry_in rest)) at) true (is_place_in (cond b at (entry_in rest)) rest)) (is_place_in (cond b at (entry_in rest)) rest) ≡ true
   entry_first true at rest h = rw (eq-eqb at at refl) refl
   entry_first false at rest h = h
 

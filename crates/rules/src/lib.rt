@@ -1,28 +1,29 @@
 // The answers that the definitions of specs/ and all code share. There is no code here.
+#![tactic(auto)]
 
 // What a length says and the place after it, or a form other than the three.
-#[derive(Drop)]
+#[derive(Clone, Copy)]
 pub enum Length {
     Got(usize, usize),
     Bad,
 }
 
 // A TLV: its tag, and where its value starts and stops. Past: none that ends inside its container.
-#[derive(Drop)]
+#[derive(Clone, Copy)]
 pub enum Head {
     Tlv(u8, usize, usize),
     Past,
 }
 
 // A place that was looked for.
-#[derive(Drop)]
+#[derive(Clone, Copy)]
 pub enum Spot {
     After(usize),
     Cut,
 }
 
 // One pair of a value: bytes as they stand, from a place up to another, or a variable's number and the place after it.
-#[derive(Drop)]
+#[derive(Clone, Copy)]
 pub enum Pair {
     Text(usize, usize),
     Number(u8, usize),
@@ -30,7 +31,7 @@ pub enum Pair {
 }
 
 // What a value holds: TLVs of a container of some kind, from a place on; data; or less than its tag asks.
-#[derive(Drop)]
+#[derive(Clone, Copy)]
 pub enum Body {
     Inner(usize, usize),
     Leaf,
@@ -38,7 +39,7 @@ pub enum Body {
 }
 
 // A TLV as one class of the loader sees it: at fault, passed over, or gone into.
-#[derive(Drop)]
+#[derive(Clone, Copy)]
 pub enum Look {
     Fault,
     Over,
@@ -46,28 +47,28 @@ pub enum Look {
 }
 
 // The first fault of a class, by its place.
-#[derive(Drop)]
+#[derive(Clone, Copy)]
 pub enum Found {
     Fine,
     At(usize),
 }
 
 // The loader's answer: a class from 1 to 7 and an offset where the page is rejected.
-#[derive(Drop)]
+#[derive(Clone, Copy)]
 pub enum Judged {
     Accepted,
     Rejected(u8, usize),
 }
 
 // Where the value of a part of a page starts and stops.
-#[derive(Drop)]
+#[derive(Clone, Copy)]
 pub enum Part {
     Held(usize, usize),
     Missing,
 }
 
 // What an anchor reference means on a page: one of its units, an anchor that it lacks, or another page.
-#[derive(Drop)]
+#[derive(Clone, Copy)]
 pub enum Target {
     Unit(usize),
     Lacking,
@@ -76,7 +77,7 @@ pub enum Target {
 
 // What the handler does: one of the four system actions, or a branch to the reference that stands from a place up to another.
 // Pass: nothing, so that the search goes on.
-#[derive(Drop)]
+#[derive(Clone, Copy)]
 pub enum Action {
     Pass,
     Next,
@@ -87,7 +88,7 @@ pub enum Action {
 }
 
 // What the cases of a branch come to: the reference to follow, no branch, or a variable that is undefined.
-#[derive(Drop)]
+#[derive(Clone, Copy)]
 pub enum Choice {
     Follow(usize, usize),
     Stay,
@@ -95,7 +96,7 @@ pub enum Choice {
 }
 
 // What is wrong with the numbers that a byte code names, from nothing to the worst.
-#[derive(Drop)]
+#[derive(Clone, Copy)]
 pub enum Complaint {
     Nothing,
     Undefined,
@@ -104,14 +105,14 @@ pub enum Complaint {
 }
 
 // A response: its general result and the TLV after the result.
-#[derive(Drop)]
+#[derive(Clone, Copy)]
 pub enum Reply {
     Result(u8, Head),
     Malformed,
 }
 
 // Why a call or a step is refused. Numbers.antt gives the number, what it leaves, and the code for variable '05'.
-#[derive(Drop)]
+#[derive(Clone, Copy)]
 pub enum Refusal {
     Syntax,
     Variable,
@@ -126,7 +127,7 @@ pub enum Refusal {
 }
 
 // What a step, a run or a response comes to. A command has the length that it takes in the lent buffer.
-#[derive(Drop)]
+#[derive(Clone, Copy)]
 pub enum Outcome {
     On,
     Command(usize),
@@ -136,7 +137,7 @@ pub enum Outcome {
 }
 
 // A load's answer: the page runs; the loader's class and offset; or a refusal of the call.
-#[derive(Drop)]
+#[derive(Clone, Copy)]
 pub enum Loaded {
     Started,
     Faulty(u8, usize),
@@ -144,14 +145,14 @@ pub enum Loaded {
 }
 
 // The answer of a creation, an environment write or an end.
-#[derive(Drop)]
+#[derive(Clone, Copy)]
 pub enum Told {
     Done,
     Undone(Refusal),
 }
 
 // A step's answer, with the unit and the tag of its byte code: '00' at a unit's end. Both are 0 where no step was taken.
-#[derive(Drop)]
+#[derive(Clone, Copy)]
 pub struct Stepped {
     pub outcome: Outcome,
     pub unit: usize,
@@ -159,7 +160,7 @@ pub struct Stepped {
 }
 
 // A run's answer, with the steps that it took.
-#[derive(Drop)]
+#[derive(Clone, Copy)]
 pub struct Ran {
     pub outcome: Outcome,
     pub count: usize,

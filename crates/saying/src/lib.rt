@@ -1,4 +1,6 @@
 // The answers to the host's calls, a line each.
+#![tactic(auto)]
+
 ghost use Rattle.std.specs.Prelude.{◌≤◌, length};
 
 use lines::{say, say_number};

@@ -1,4 +1,6 @@
 // Bytes of a slice at any places: past its end there are none.
+#![tactic(auto)]
+
 ghost use Rattle.std.specs.Prelude.{◌≡◌, get_or};
 ghost use Rattle.rules.specs.Bytes.{part};
 

@@ -1,4 +1,6 @@
 // The environment and the temporary area on lent arrays (clause 6.1).
+#![tactic(auto)]
+
 ghost use Rattle.std.specs.Prelude.{◌≡◌, true, cond, ◌+◌, ◌*◌, ◌≤◌, ◌<◌, length, get_or, set};
 ghost use Rattle.rules.specs.Card.{Slot, free, held};
 ghost use Rattle.rules.specs.Store.{value_bytes, value_type, room};

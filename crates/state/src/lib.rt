@@ -8,7 +8,7 @@ ghost use Rattle.slots.specs.Slots.{slots, tidy_slots};
 ghost use Rattle.state.specs.State.{Is};
 
 // The running page and its length, the areas, the history, the guard's password, the command in hand, the reference wanted, and the place in the page.
-#[derive(Drop)]
+#[derive(Clone, Copy)]
 pub struct State {
     pub page: [u8; 4096],
     pub len: usize,

@@ -1,4 +1,6 @@
 // What stands at a place of a page or of a response: lengths, TLVs, pairs, attribute bytes (clauses 5 and 6.3).
+#![tactic(auto)]
+
 ghost use Rattle.std.specs.Prelude.{◌≡◌, ◌≤◌, ◌-◌, length};
 ghost use Rattle.rules.specs.Tlv.{length_at, head_at};
 ghost use Rattle.rules.specs.Tlvs.{tlvs, count};

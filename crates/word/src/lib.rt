@@ -1,4 +1,6 @@
 // Short texts in lent arrays: the guard's password, the command in hand, the reference of the page wanted.
+#![tactic(auto)]
+
 ghost use Rattle.std.specs.Prelude.{◌≡◌, ◌+◌, ◌<◌, ◌≤◌, length, drop};
 ghost use Rattle.pour.specs.Pour.{blank};
 ghost use Rattle.word.specs.Word.{word_in, laid_word, tidy_word, laid_marked, tidy_marked, is_marked};

@@ -1,0 +1,13 @@
+-- `wipe` meets its contract: after i turns the first i bytes are zero. The measure is what is left.
+use Rattle.pour.proofs.CopyLaws.{copy_laws}
+use borrow.Author.Rules.{rules}
+use Rattle.pour.proofs.wipe.Goals as goal
+
+pub loop-i-init : goal.loop-i-init
+loop-i-init c = search (rules, copy_laws)
+
+pub loop-i-preserved : goal.loop-i-preserved
+loop-i-preserved c = search (rules, copy_laws)
+
+pub returns : goal.returns
+returns c = search (rules, copy_laws)

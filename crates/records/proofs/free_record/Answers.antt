@@ -1,0 +1,16 @@
+-- `free_record` meets its contract: the search from here finds what the search from the start does. The measure is the records to come.
+use Rattle.records.proofs.FindLaws.{find_laws}
+use borrow.Author.Rules.{rules}
+use Rattle.records.proofs.free_record.Goals as goal
+
+pub loop-k-init : goal.loop-k-init
+loop-k-init c = search (rules, find_laws)
+
+pub returns-then-area-k-eq0 : goal.returns-then-area-k-eq0
+returns-then-area-k-eq0 c = search (rules, find_laws)
+
+pub loop-k-preserved : goal.loop-k-preserved
+loop-k-preserved c = search (rules, find_laws)
+
+pub returns : goal.returns
+returns c = search (rules, find_laws)
