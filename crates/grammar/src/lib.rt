@@ -1,4 +1,6 @@
 // The grammar of a page as tables, and a row of TLVs held against them.
+#![tactic(auto)]
+
 ghost use Rattle.std.specs.Prelude.{◌≡◌, ◌≤◌, ◌<◌, length};
 ghost use Rattle.grammar.specs.Columns.{slot_of, column_of};
 ghost use Rattle.rules.specs.Tlvs.{tlvs};

@@ -1,4 +1,6 @@
 // The parts of an accepted page (clause 7.1). Every function is total on any bytes.
+#![tactic(auto)]
+
 ghost use Rattle.std.specs.Prelude.{◌≡◌, false, ◌≤◌, length};
 ghost use Rattle.rules.specs.Tlvs.{tlvs};
 ghost use Rattle.rules.specs.Pieces.{pieces};

@@ -1,4 +1,6 @@
 // The pieces that a value is put together from (clauses 6.3 and 7.4): bytes as they stand, and variables.
+#![tactic(auto)]
+
 ghost use Rattle.std.specs.Prelude.{◌≡◌, ◌≤◌, length};
 ghost use Rattle.piece.specs.Piece.{piece_at, contents_at};
 

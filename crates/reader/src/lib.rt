@@ -1,4 +1,6 @@
 // A reader of TLVs: it holds its container's bytes and a place in them, so that no TLV that it reads ends outside its container (clause 5).
+#![tactic(auto)]
+
 ghost use Rattle.std.specs.Prelude.{◌≡◌, ◌≤◌, length};
 ghost use Rattle.rules.specs.Tlv.{head_at};
 ghost use Rattle.reader.specs.Next.{next_at};

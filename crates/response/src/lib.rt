@@ -1,4 +1,6 @@
 // A terminal response, read (clause 8.7.5). Every function is total on any bytes.
+#![tactic(auto)]
+
 ghost use Rattle.std.specs.Prelude.{◌≡◌, cond, length};
 ghost use Rattle.rules.specs.Tlvs.{tlvs};
 ghost use Rattle.rules.specs.Card.{held};

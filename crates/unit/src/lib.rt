@@ -1,4 +1,6 @@
 // The navigation units of an accepted page (clause 7.2). Every function is total on any bytes.
+#![tactic(auto)]
+
 ghost use Rattle.std.specs.Prelude.{◌≡◌, ◌≤◌, length};
 ghost use Rattle.rules.specs.Tlvs.{tlvs};
 ghost use Rattle.rules.specs.Page.{unit_at, unit_count, anchor, unrecorded, is_code, entry_in, entry_of, is_place_in, is_place, code_at};

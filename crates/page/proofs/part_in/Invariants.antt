@@ -1,0 +1,12 @@
+-- `page::part_in` meets its contract. The invariant: the first TLV with the tag, from here on, is the first from the start.
+use Prim.Native.Nat.{◌-◌}
+use mathlib.Core.Path.{◌≡◌}
+use Rattle.rules.specs.Tlvs.{tlvs}
+use Rattle.rules.specs.Page.{part_in}
+use Rattle.page.proofs.part_in.Given as goal
+
+abbrev pub invariant-loop-at : goal.invariant-loop-at
+invariant-loop-at l = part_in l.tag (tlvs 0 l.s l.at l.end) ≡ part_in l.tag (tlvs 0 l.s l.from l.end)
+
+abbrev pub decreases-loop-at : goal.decreases-loop-at
+decreases-loop-at l = l.end - l.at

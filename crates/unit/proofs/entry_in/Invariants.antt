@@ -1,0 +1,12 @@
+-- `unit::entry_in` meets its contract. The invariant: the first byte code, from here on, is the first from the start.
+use Prim.Native.Nat.{◌-◌}
+use mathlib.Core.Path.{◌≡◌}
+use Rattle.rules.specs.Tlvs.{tlvs}
+use Rattle.rules.specs.Page.{entry_in}
+use Rattle.unit.proofs.entry_in.Given as goal
+
+abbrev pub invariant-loop-at : goal.invariant-loop-at
+invariant-loop-at l = entry_in (tlvs 0 l.s l.at l.end) ≡ entry_in (tlvs 0 l.s l.from l.end)
+
+abbrev pub decreases-loop-at : goal.decreases-loop-at
+decreases-loop-at l = l.end - l.at
