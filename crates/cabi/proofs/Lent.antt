@@ -30,7 +30,7 @@ module _ (s : List ℕ) where
       both (has_room k lent) (λ a. both (eqb (length s) size) (λ b. simp (a, b) e) (λ b. simp (a, b) f)) (λ a. simp a f)
 
   module _ (lent : List ℕ) (short : length lent < 255) (r : ℕ) (t u : List ℕ) where
-    -- So does a command buffer under 255 bytes; `kept-bytes` says what it leaves.
+    -- So does a command buffer under 255 bytes; `kept_bytes` says what it leaves.
     pub step_32 : Serves (step lent) s lent r t u → r % 256 ≡ 32
     unfolding act admitted lends step_refused answer_number outcome_number number
     step_32 x = low_byte (step lent) s lent r t u x ∙ served_short (step lent) lent (rw (lt-leb _ _ short) refl)

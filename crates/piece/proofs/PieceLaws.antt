@@ -1,4 +1,4 @@
--- Laws of `piecesFrom`: the pieces of a value unfold by one, and where that one lies.
+-- Laws of `pieces_from`: the pieces of a value unfold by one, and where that one lies.
 -- Assumes nothing.
 use Prim.Native.Nat.{ℕ, suc, ◌+◌, ◌-◌, ◌≤◌, ◌<◌}
 use mathlib.Core.Bool.{Bool, true, false}

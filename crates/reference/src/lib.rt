@@ -1,4 +1,6 @@
 // Anchor references, split and resolved on a page (clauses 7.2.2 and 7.3).
+#![tactic(auto)]
+
 ghost use Rattle.std.specs.Prelude.{◌≡◌, ◌≤◌, length};
 ghost use Rattle.rules.specs.Tlvs.{tlvs};
 ghost use Rattle.rules.specs.Page.{part_in, holds};

@@ -1,4 +1,6 @@
 // What the value of a TLV holds, by the shape of its tag.
+#![tactic(auto)]
+
 ghost use Rattle.std.specs.Prelude.{◌≡◌, ◌≤◌, length};
 ghost use Rattle.rules.specs.Shape.{shape_of, kind_at, value_at, body_of};
 ghost use Rattle.rules.specs.Shape.{added as Shape·added, contents as Shape·contents};

@@ -1,4 +1,4 @@
--- Laws of `pieces`: they unfold by one pair. With these no proof looks at how far `piecesUpTo` may go.
+-- Laws of `pieces`: they unfold by one pair. With these no proof looks at how far `pieces_up_to` may go.
 -- Assumes nothing.
 use Prim.Native.Nat.{ℕ, zero, suc, ◌-◌, ◌≤◌, ◌<◌}
 use mathlib.Core.List.{List}

@@ -1,4 +1,4 @@
--- Laws of `tlvs`: a row unfolds by one TLV. With these no proof looks at how far `tlvsUpTo` may go.
+-- Laws of `tlvs`: a row unfolds by one TLV. With these no proof looks at how far `tlvs_up_to` may go.
 -- Assumes nothing.
 use Prim.Native.Nat.{ℕ, zero, suc, ◌+◌, ◌-◌, ◌≤◌, ◌<◌}
 use mathlib.Core.List.{List}
