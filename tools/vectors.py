@@ -45,19 +45,19 @@ def call_term(words):
     if name == "create":
         return "create"
     if name == "env":
-        return f"setEnvironment 0x{words[1]} {octets(words[2])}"
+        return f"set_environment 0x{words[1]} {octets(words[2])}"
     if name == "load":
         return f"load {octets(words[1])}"
     if name == "step":
         return "step lent"
     if name == "run":
-        return f"runUpTo {words[1]} lent"
+        return f"run_up_to {words[1]} lent"
     if name == "respond":
         return f"respond {octets(words[1])} lent"
     if name == "end":
         return "end"
     if name == "read":
-        return f"readVariable 0x{words[1]} {octets(words[2]) if len(words) == 3 else '[]'}"
+        return f"read_variable 0x{words[1]} {octets(words[2]) if len(words) == 3 else '[]'}"
     raise ValueError(words)
 
 
@@ -82,13 +82,11 @@ def line_term(words):
 
 
 LINE = """-- What an answer line says of an answer.
-use Prim.Native.Nat.{ℕ}
-use mathlib.Core.List.{List, [], _∷_}
-use lib.ListN.{replicate}
-use Rattle·rules.specs.Numbers.{loadedNumber, outcomeNumber, toldNumber, offset}
-use Rattle·rules.specs.Calls.{Asked, Answer, told, loaded, taken, ran, responded, shown}
-use Rattle·rules.specs.declared.Outcome.{Outcome}
-use Rattle·rules.specs.declared.Outcome.the-variants.{On, Command, Page, Ended, Refused}
+use Rattle.std.specs.Prelude.{ℕ, List, [], ◌∷◌, replicate}
+use Rattle.rules.specs.Numbers.{loaded_number, outcome_number, told_number, offset}
+use Rattle.rules.specs.Calls.{Asked, Answer, told, loaded, taken, ran, responded, shown}
+use Rattle.rules.specs.declared.Outcome.{Outcome}
+use Rattle.rules.specs.declared.Outcome.TheVariants.{On, Command, Page, Ended, Refused}
 
 unfoldable pub outcome : Outcome → ℕ
 outcome On = 0
@@ -98,29 +96,27 @@ outcome Ended = 3
 outcome (Refused r) = 4
 
 unfoldable pub line : Answer → List (List ℕ)
-line (told t) = (toldNumber t ∷ []) ∷ []
-line (loaded l) = (loadedNumber l ∷ offset l ∷ []) ∷ []
-line (taken s b r) = (outcomeNumber (s .outcome) ∷ outcome (s .outcome) ∷ s .unit ∷ s .tag ∷ []) ∷ b ∷ r ∷ []
-line (ran s b r) = (outcomeNumber (s .outcome) ∷ outcome (s .outcome) ∷ s .count ∷ []) ∷ b ∷ r ∷ []
-line (responded o b r) = (outcomeNumber o ∷ outcome o ∷ []) ∷ b ∷ r ∷ []
-line (shown s) = (s .number ∷ s .valuetype ∷ s .length ∷ []) ∷ s .bytes ∷ []
+line (told t) = (told_number t ∷ []) ∷ []
+line (loaded l) = (loaded_number l ∷ offset l ∷ []) ∷ []
+line (taken s b r) = (outcome_number s.outcome ∷ outcome s.outcome ∷ s.unit ∷ s.tag ∷ []) ∷ b ∷ r ∷ []
+line (ran s b r) = (outcome_number s.outcome ∷ outcome s.outcome ∷ s.count ∷ []) ∷ b ∷ r ∷ []
+line (responded o b r) = (outcome_number o ∷ outcome o ∷ []) ∷ b ∷ r ∷ []
+line (shown s) = (s.number ∷ s.valuetype ∷ s.length ∷ []) ∷ s.bytes ∷ []
 
 unfoldable pub lines : List Answer → List (List (List ℕ))
 lines [] = []
-lines (a ∷ as′) = line a ∷ lines as′
+lines (a ∷ rest) = line a ∷ lines rest
 
 unfoldable pub lent : List ℕ
 lent = replicate 255 0
 """
 
-HEAD = """use mathlib.Core.Path.{_≡_, refl}
-use mathlib.Core.List.{List, [], _∷_, _++_}
-use lib.ListN.{replicate}
-use Rattle·rules.specs.Bytes.{hex}
-use Rattle·rules.specs.Card.{created}
-use Rattle·rules.specs.Calls.{create, setEnvironment, load, step, runUpTo, respond, end, readVariable, answers}
-use Rattle·rules.specs.Open.{opened}
-use Rattle·trial·specs.specs.Line.{outcome, line, lines, lent}
+HEAD = """use Rattle.std.proofs.Common.{◌≡◌, refl, List, [], ◌∷◌, ◌++◌, replicate}
+use Rattle.rules.specs.Bytes.{hex}
+use Rattle.rules.specs.Card.{created}
+use Rattle.rules.specs.Calls.{create, set_environment, load, step, run_up_to, respond, end, read_variable, answers}
+use Rattle.rules.specs.Open.{opened}
+use Rattle.trial.specs.Line.{outcome, line, lines, lent}
 
 """
 
@@ -159,7 +155,7 @@ def main():
         os.makedirs(os.path.join(trial, part))
     files = {
         os.path.join(given.folder, "crates.txt"): "rules:\ntrial: rules\n",
-        os.path.join(trial, "src", "lib.rt"): "// Theorems only.\n",
+        os.path.join(trial, "src", "lib.rt"): "// Theorems only.\n#![tactic(auto)]\n",
         os.path.join(trial, "specs", "Lib.antt"): "pub mod Line\n",
         os.path.join(trial, "specs", "Line.antt"): LINE,
     }

@@ -1,4 +1,6 @@
 // The terminal response handler (clauses 4.3 and 7.1.8): the modifiers in force, and their search.
+#![tactic(auto)]
+
 ghost use Rattle.std.specs.Prelude.{◌≡◌, ◌≤◌, length};
 ghost use Rattle.rules.specs.Tlv.{head_at};
 ghost use Rattle.rules.specs.Tlvs.{tlvs};
