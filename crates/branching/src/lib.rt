@@ -1,4 +1,6 @@
 // Branch On Variable Value (clause 8.5), up to the reference that it leads to.
+#![tactic(auto)]
+
 ghost use Rattle.std.specs.Prelude.{◌≡◌, true, [], ◌≤◌, length};
 ghost use Rattle.rules.specs.Bytes.{same};
 ghost use Rattle.rules.specs.Tlv.{head_at};

@@ -1,4 +1,6 @@
 // A page asked for one class at a time: its first fault.
+#![tactic(auto)]
+
 ghost use Rattle.std.specs.Prelude.{◌≡◌, cond, [], ◌∷◌, eqb, ◌≤◌, length};
 ghost use Rattle.rules.specs.Tlvs.{tlvs};
 ghost use Rattle.rules.specs.Grammar.{cell_of, gap_of};

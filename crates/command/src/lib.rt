@@ -1,4 +1,6 @@
 // The outgoing command of an Execute USAT Command, byte for byte (clauses 8.7.3 and 8.7.4).
+#![tactic(auto)]
+
 ghost use Rattle.std.specs.Prelude.{◌≡◌, ◌+◌, ◌≤◌, length};
 ghost use Rattle.rules.specs.Tlvs.{tlvs};
 ghost use Rattle.rules.specs.Command.{execute_of, expanded, command};

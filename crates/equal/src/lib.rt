@@ -1,4 +1,6 @@
 // A value held against bytes, with no copy of it (clause 8.5).
+#![tactic(auto)]
+
 ghost use Rattle.std.specs.Prelude.{◌≡◌, ◌≤◌, length};
 ghost use Rattle.rules.specs.Bytes.{same};
 ghost use Rattle.rules.specs.Value.{joined};

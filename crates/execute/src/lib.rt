@@ -1,4 +1,6 @@
 // An Execute USAT Command, read (clause 8.7): its result variables, its type, and what is wrong with the numbers that it names.
+#![tactic(auto)]
+
 ghost use Rattle.std.specs.Prelude.{◌≡◌, true, cond, [], ◌+◌, ◌≤◌, length, get_or, eqb};
 ghost use Rattle.rules.specs.declared.Complaint.TheVariants.{Nothing};
 ghost use Rattle.rules.specs.Tlvs.{tlvs};

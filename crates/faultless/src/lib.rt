@@ -1,4 +1,6 @@
 // One walk that settles a page without a fault: every class at once.
+#![tactic(auto)]
+
 ghost use Rattle.std.specs.Prelude.{◌≡◌, true, cond, eqb, ◌≤◌, ◌<◌, ◌-◌, length};
 ghost use Rattle.rules.specs.Tlvs.{plain};
 ghost use Rattle.faultless.specs.Clean.{Admitted, Settled, Agreed, slot_of, anchor_slot, FreshIf, Clean, PartClean, RowClean, PageClean};

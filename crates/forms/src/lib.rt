@@ -1,4 +1,6 @@
 // What each of the classes 4 to 7 asks of one TLV.
+#![tactic(auto)]
+
 ghost use Rattle.std.specs.Prelude.{◌≡◌, true, false, ◌≤◌, length};
 ghost use Rattle.rules.specs.Tlvs.{count};
 ghost use Rattle.rules.specs.Pieces.{pieces};

@@ -1,4 +1,6 @@
 // What a page keeps for the next one, how it is protected, and whether the next page opens it (clause 6.1.3).
+#![tactic(auto)]
+
 ghost use Rattle.std.specs.Prelude.{◌≡◌, true, ◌≤◌, length};
 ghost use Rattle.rules.specs.Page.{keep_list, password, bytes_of};
 ghost use Rattle.rules.specs.Keep.{kept_by, guard_by};

@@ -1,4 +1,6 @@
 // The history on a lent array (clauses 4.6 and 8.4).
+#![tactic(auto)]
+
 ghost use Rattle.std.specs.Prelude.{◌≡◌, true, ◌++◌, ◌+◌, ◌*◌, ◌-◌, ◌≤◌, ◌<◌, min, length, get_or, set, take, drop};
 ghost use Rattle.pour.specs.Stride.{each, all};
 ghost use Rattle.rules.specs.Trail.{pushed, topped, last, lowered};

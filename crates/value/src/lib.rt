@@ -1,4 +1,6 @@
 // Values put together from pairs (clause 6.3) and from Variable Identifier Lists (clauses 7.4 and 8.1).
+#![tactic(auto)]
+
 ghost use Rattle.std.specs.Prelude.{◌≡◌, ◌+◌, ◌≤◌, length};
 ghost use Rattle.rules.specs.Bytes.{among};
 ghost use Rattle.rules.specs.Store.{reading};

@@ -1,4 +1,6 @@
 // The type of a value (clauses 7.5 and 8.1).
+#![tactic(auto)]
+
 ghost use Rattle.std.specs.Prelude.{◌≡◌, ◌≤◌, length};
 ghost use Rattle.rules.specs.Bytes.{part};
 ghost use Rattle.rules.specs.Pieces.{named};

@@ -1,4 +1,6 @@
 // Variables as the running page sees them (clause 6.1): what a number names, and who may read and write it.
+#![tactic(auto)]
+
 ghost use Rattle.std.specs.Prelude.{◌≡◌, cond, ◌+◌, ◌≤◌, ◌<◌, length};
 ghost use Rattle.rules.specs.declared.Complaint.TheVariants.{Nothing, Undefined};
 ghost use Rattle.rules.specs.Page.{service, element};

@@ -1,4 +1,6 @@
 // Writes of variables (clause 6.1), and where there is no memory for one.
+#![tactic(auto)]
+
 ghost use Rattle.std.specs.Prelude.{◌≡◌, true, false, cond, List, ℕ, ◌≤◌, ◌<◌, length};
 ghost use Rattle.rules.specs.Page.{service};
 ghost use Rattle.rules.specs.Card.{held, stored};

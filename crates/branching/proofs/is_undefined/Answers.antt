@@ -1,0 +1,16 @@
+-- `branching::is_undefined` meets its contract.
+use Rattle.branching.proofs.ChooseLaws.{undefined_laws}
+use borrow.Author.Rules.{rules}
+use Rattle.branching.proofs.is_undefined.Goals as goal
+
+pub returns-in-Nothing : goal.returns-in-Nothing
+returns-in-Nothing c = search (rules, undefined_laws)
+
+pub returns-in-Undefined : goal.returns-in-Undefined
+returns-in-Undefined c = search (rules, undefined_laws)
+
+pub returns-in-Secured : goal.returns-in-Secured
+returns-in-Secured c = search (rules, undefined_laws)
+
+pub returns-in-Misused : goal.returns-in-Misused
+returns-in-Misused c = search (rules, undefined_laws)
