@@ -11,6 +11,8 @@
 //     56631  wanted         66
 //     56697  unit            2
 //     56699  place           2
+#![tactic(auto)]
+
 ghost use Rattle.std.specs.Prelude.{◌≡◌, ◌+◌, ◌<◌, ◌≤◌, length};
 ghost use Rattle.rules.specs.Bytes.{part, hex};
 ghost use Rattle.pour.specs.Pour.{poured};

@@ -1,4 +1,6 @@
 // A unit that a branch leaves, added to the history (clause 4.6).
+#![tactic(auto)]
+
 ghost use Rattle.std.specs.Prelude.{◌≡◌, true, ◌++◌, ◌∷◌, ◌≤◌, length, take};
 ghost use Rattle.rules.specs.declared.Judged.TheVariants.{Accepted};
 ghost use Rattle.rules.specs.Loader.{judge};

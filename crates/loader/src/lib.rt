@@ -1,4 +1,6 @@
 // The loader's answer to a page: accepted by one walk, or else judged class by class.
+#![tactic(auto)]
+
 ghost use Rattle.std.specs.Prelude.{◌≡◌};
 ghost use Rattle.rules.specs.Loader.{judge as Loader·judge};
 

@@ -1,4 +1,6 @@
 // What a response brings (clause 8.7.5): the general result, then the output.
+#![tactic(auto)]
+
 ghost use Rattle.std.specs.Prelude.{◌≡◌, true, cond, List, [], ◌∷◌, ℕ, ◌≤◌, length};
 ghost use Rattle.rules.specs.Page.{service};
 ghost use Rattle.rules.specs.Store.{wrote, no_room, write};

@@ -1,5 +1,5 @@
 -- A run is its steps: the count, the outcome and the card of taking one step after another until n, or until an outcome other than gone on. Assumes nothing.
-use Prim.Native.Nat.{ℕ, zero, suc, ◌+◌, ◌-◌, ◌≤◌, ◌<◌}
+use Prim.Native.Nat.{ℕ, zero, suc, ◌+◌, ◌≤◌, ◌<◌}
 use mathlib.Core.Path.{◌≡◌, refl, sym, ap, ◌∙◌}
 use mathlib.Core.Bool.{true, false≢true}
 use native.Mathlib.Omega.{arith}

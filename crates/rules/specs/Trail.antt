@@ -1,5 +1,5 @@
 -- The history (clauses 4.6 and 8.4).
-use Rattle.std.specs.Prelude.{ℕ, ◌+◌, ◌-◌, Bool, true, false, cond, List, [], ◌∷◌, ◌++◌, length, get_or, take, drop, ltb}
+use Rattle.std.specs.Prelude.{ℕ, ◌-◌, Bool, true, false, cond, List, [], ◌∷◌, ◌++◌, length, get_or, take, drop, ltb}
 use Rattle.rules.specs.Page.{identification, anchor, bytes_of, is_held, unrecorded}
 use Rattle.rules.specs.Reference.{reference}
 use Rattle.rules.specs.Card.{History}

@@ -1,5 +1,5 @@
 -- Values put together from pairs (6.3, method 1) and from Variable Identifier Lists (7.4, 8.1).
-use Rattle.std.specs.Prelude.{ℕ, ◌+◌, ◌/◌, ◌%◌, Bool, true, cond, List, [], ◌∷◌, ◌++◌, ltb, eqb}
+use Rattle.std.specs.Prelude.{ℕ, ◌/◌, ◌%◌, Bool, true, cond, List, [], ◌∷◌, ◌++◌, ltb, eqb}
 use Rattle.rules.specs.Bytes.{part, among}
 use Rattle.rules.specs.Pieces.{Pieces, full, cut, text, variable, pieces, named}
 use Rattle.rules.specs.Shape.{attribute}

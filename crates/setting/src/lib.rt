@@ -1,4 +1,6 @@
 // Set Variable (clause 8.1) and Get Length (clause 8.9) on lent arrays.
+#![tactic(auto)]
+
 ghost use Rattle.std.specs.Prelude.{◌≡◌, true, cond, [], ◌≤◌, length};
 ghost use Rattle.rules.specs.Bytes.{part};
 ghost use Rattle.rules.specs.Tlvs.{tlvs};

@@ -1,4 +1,6 @@
 // The state of a card in arrays and numbers, and the card that it is.
+#![tactic(auto)]
+
 ghost use Rattle.std.specs.Prelude.{◌≡◌, ◌∷◌, [], ◌≤◌, length, take, set, true};
 ghost use Rattle.rules.specs.Card.{Card, created, held};
 ghost use Rattle.rules.specs.Page.{bytes_of, password};

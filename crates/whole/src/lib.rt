@@ -1,4 +1,6 @@
 // Writes that are done whole or not at all: where there is no memory (18), both areas are as they were, byte for byte.
+#![tactic(auto)]
+
 ghost use Rattle.std.specs.Prelude.{◌≡◌, true, false, cond, List, ℕ, ◌≤◌, length};
 ghost use Rattle.rules.specs.Bytes.{part};
 ghost use Rattle.rules.specs.Tlvs.{tlvs};

@@ -1,12 +1,10 @@
 -- `walk` finds the first fault of the rules. It calls itself with fewer levels left. The loop's invariant: what is left of the row comes to what the
 -- whole row comes to.
-use borrow.Fn.PlainCycle.{is}
 use native.Mathlib.Omega.{arith}
 use borrow.Author.Rules.{rules}
 use Rattle.tlv.proofs.Bounds.{head_tlv}
 use Rattle.classes.proofs.LookLaws.{look_into}
 use Rattle.classes.proofs.WalkLaws.{walk_laws, t_within, w_fine}
-use Rattle.classes.proofs.walk.Reads as walk
 use mathlib.Core.Path.{refl, sym}
 use Rattle.classes.proofs.+walk.Goals as goal
 
@@ -94,10 +92,10 @@ loop-at-smaller t c = search (rules, walk_laws)
 
 pub loop-at-preserved : goal.loop-at-preserved
 loop-at-preserved t c = (
-      t_within _ _ _ _ _ c.in-Tlv.ensures _ _ _ refl,
-      w_fine _ _ _ _ _ _ _ _ _ _ c.loop-at.invariant.1 c.loop-at-test.true _ c.in-Tlv.ensures _ _ _ refl _ c.cell_for-cell.ensures _ c.in-Into.ensures
-          _ _ refl _ c.in_default-walk.ensures refl,
-    )
+  t_within _ _ _ _ _ c.in-Tlv.ensures _ _ _ refl,
+  w_fine _ _ _ _ _ _ _ _ _ _ c.loop-at.invariant.1 c.loop-at-test.true _ c.in-Tlv.ensures _ _ _ refl _ c.cell_for-cell.ensures _ c.in-Into.ensures
+      _ _ refl _ c.in_default-walk.ensures refl,
+)
 
 pub returns : goal.returns
 returns t c = search (rules, walk_laws)

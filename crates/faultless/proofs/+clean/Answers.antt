@@ -2,12 +2,11 @@
 -- row comes to what the whole row comes to, and the modifiers before it are counted.
 use borrow.Author.Rules.{rules}
 use native.Mathlib.Omega.{arith}
-use borrow.Fn.PlainCycle.{is}
-use Rattle.faultless.proofs.clean.Reads as clean
 use Rattle.tlv.proofs.Bounds.{head_tlv}
 use Rattle.classes.proofs.WalkLaws.{t_within}
 use Rattle.faultless.proofs.CleanLaws.{agreed_in, clean_laws, c_into, c_into_count}
-use mathlib.Core.Path.{sym}
+use mathlib.Core.Bool.{not}
+use mathlib.Core.Path.{ap, refl, sym}
 use Rattle.faultless.proofs.+clean.Goals as goal
 
 pub returns-then-left-eq0 : goal.returns-then-left-eq0
@@ -28,7 +27,7 @@ clean_look-requires t c = let b = head_tlv _ _ _ (sym c.in-Tlv.ensures) in
 
 pub clean-requires : goal.clean-requires
 clean-requires t c = let b = head_tlv _ _ _ (sym c.in-Tlv.ensures) in
-    let d = agreed_in _ _ _ _ _ _ _ _ _ _ _ _ _ _ c.clean_look.ensures _ _ c.in-Into.is b.1 in
+    let d = agreed_in _ _ _ _ _ _ _ _ _ _ _ _ _ _ c.in-Into.ensures _ _ refl b.1 in
     omega arith
 
 pub loop-at-smaller-in-Over : goal.loop-at-smaller-in-Over
@@ -42,11 +41,11 @@ loop-at-smaller t c = search (rules, clean_laws)
 
 pub loop-at-preserved : goal.loop-at-preserved
 loop-at-preserved t c = (
-  t_within _ _ _ _ _ c.head_at.ensures _ _ _ c.in-Tlv.is,
-  c_into _ _ _ _ _ _ _ _ _ _ _ c.loop-at.invariant.1 c.loop-at.invariant.2 c.loop-at-test.true _ c.head_at.ensures _ _ _ c.in-Tlv.is _ c.cell_of-cell.ensures _ c.clean_look.ensures
-      _ _ c.in-Into.is _ c.clean.ensures c.if-not-clean.false,
-  c_into_count _ _ _ _ _ _ _ _ _ _ _ c.loop-at.invariant.1 c.loop-at.invariant.2 c.loop-at-test.true _ c.head_at.ensures _ _ _ c.in-Tlv.is _ c.cell_of-cell.ensures _ c.clean_look.ensures
-      _ _ c.in-Into.is _ c.left_after-fewer.ensures,
+  t_within _ _ _ _ _ c.in-Tlv.ensures _ _ _ refl,
+  c_into _ _ _ _ _ _ _ _ _ _ _ c.loop-at.invariant.1 c.loop-at.invariant.2 c.loop-at-test.true _ c.in-Tlv.ensures _ _ _ refl _ c.cell_of-cell.ensures _ c.in-Into.ensures
+      _ _ refl _ c.clean.ensures (ap not c.if-not-clean.false),
+  c_into_count _ _ _ _ _ _ _ _ _ _ _ c.loop-at.invariant.1 c.loop-at.invariant.2 c.loop-at-test.true _ c.in-Tlv.ensures _ _ _ refl _ c.cell_of-cell.ensures _ c.in-Into.ensures
+      _ _ refl _ c.left_after-fewer.ensures,
 )
 
 pub returns : goal.returns

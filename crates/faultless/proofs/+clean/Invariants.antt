@@ -10,3 +10,6 @@ invariant-loop-at l = (l.at ≤ l.end) × Rest l.s l.within l.anchor l.room l.fr
 
 abbrev pub decreases-loop-at : goal.decreases-loop-at
 decreases-loop-at l = l.end - l.at
+
+abbrev pub decreases-clean : goal.decreases-clean
+decreases-clean l = l.left

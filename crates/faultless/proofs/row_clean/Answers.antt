@@ -1,5 +1,7 @@
 -- `row_clean` answers true only where no class from 3 on finds a fault in the page's parts. The loop's invariant: what is left of them comes to what
 -- they come to, the units and modifiers before are counted, and a name whose slot is not seen is no anchor before.
+use mathlib.Core.Bool.{not}
+use mathlib.Core.Path.{ap}
 use native.Mathlib.Omega.{arith}
 use borrow.Author.Rules.{rules}
 use Rattle.tlv.proofs.Bounds.{next_laws, next_within, head_tlv}
@@ -52,7 +54,7 @@ loop-at-smaller c = search (rules, next_laws, page_row_laws)
 pub loop-at-preserved : goal.loop-at-preserved
 loop-at-preserved c = (
   next_within _ _ _ _ c.head_at.ensures _ _ _ c.in-Tlv.is _ (omega arith),
-  r_into _ _ _ _ _ c.loop-at.invariant.1 c.loop-at-test.true _ c.head_at.ensures _ _ _ c.in-Tlv.is _ _ c.loop-at.invariant.2 c.loop-at.invariant.3 _ c.cell_of-cell.ensures _ c.clean_look.ensures _ _ c.in-Into.is _ _ c.loop-at.invariant.4 c.loop-at.invariant.5 _ c.loop-at.invariant.6 _ c.anchor_slot-slot.ensures.0 _ c.part_clean.ensures c.if-not-part_clean.false,
+  r_into _ _ _ _ _ c.loop-at.invariant.1 c.loop-at-test.true _ c.head_at.ensures _ _ _ c.in-Tlv.is _ _ c.loop-at.invariant.2 c.loop-at.invariant.3 _ c.cell_of-cell.ensures _ c.clean_look.ensures _ _ c.in-Into.is _ _ c.loop-at.invariant.4 c.loop-at.invariant.5 _ c.loop-at.invariant.6 _ c.anchor_slot-slot.ensures.0 _ c.part_clean.ensures (ap not c.if-not-part_clean.false),
   r_into_units _ _ _ _ _ c.loop-at.invariant.1 c.loop-at-test.true _ c.head_at.ensures _ _ _ c.in-Tlv.is _ _ c.loop-at.invariant.2 c.loop-at.invariant.3 _ c.cell_of-cell.ensures _ c.clean_look.ensures _ _ c.in-Into.is _ c.left_after-fewer_units.ensures,
   r_into_modifiers _ _ _ _ _ c.loop-at.invariant.1 c.loop-at-test.true _ c.head_at.ensures _ _ _ c.in-Tlv.is _ _ c.loop-at.invariant.2 c.loop-at.invariant.3 _ c.cell_of-cell.ensures _ c.clean_look.ensures _ _ c.in-Into.is _ c.left_after-fewer_modifiers.ensures,
   c.loop-at.invariant.4,
