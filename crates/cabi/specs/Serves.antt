@@ -49,9 +49,9 @@ lent_after (shown s) lent = cond (eqb s.number 0) (over s.bytes lent) lent
 
 -- What is returned and every byte of the lent buffer are those of the definitions. A state buffer of the named length that holds a card, or is to hold a new one,
 -- comes to hold the card that the definitions give, in canonical form; any other stays as it is, byte for byte.
-pub record Serves (k : Asked) (s lent : List ℕ) (returned : ℕ) (after lentThen : List ℕ) : Type 0 where
+pub record Serves (k : Asked) (s lent : List ℕ) (returned : ℕ) (after lent_then : List ℕ) : Type 0 where
   pub answered : returned ≡ packed (served k s lent).answer
-  pub laid : lentThen ≡ lent_after (served k s lent).answer lent
+  pub laid : lent_then ≡ lent_after (served k s lent).answer lent
   pub long : length after ≡ length s
   pub goes : reaches k s ≡ true → Is (decoded after) (served k s lent).card
   pub stays : reaches k s ≡ false → after ≡ s

@@ -1,5 +1,7 @@
 // Reads pages as lines of hex, judges each, and prints its number and offset as `load 4 21`, or `load 0 -` for an accepted page.
 // '-' is a page of no bytes, and a line that is no hex is answered by '?'.
+#![tactic(auto)]
+
 use libc::STDIN_FILENO;
 use lines::{say, say_number};
 use rules::Judged;

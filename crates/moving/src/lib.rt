@@ -1,4 +1,6 @@
 // Where a byte code leads: on in its unit, to a unit of its page, to another page, back, or to the page's end (clauses 4.6, 8.4 and 12).
+#![tactic(auto)]
+
 ghost use Rattle.std.specs.Prelude.{◌≡◌, true, cond, ◌∷◌, [], ◌≤◌, length, set, take, eqb};
 ghost use Rattle.rules.specs.declared.Judged.TheVariants.{Accepted};
 ghost use Rattle.rules.specs.declared.Outcome.TheVariants.{On, Ended};

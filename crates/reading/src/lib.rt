@@ -1,4 +1,6 @@
 // The host reads a variable: its value with its type, or number 17 where it is undefined or the host may not see it.
+#![tactic(auto)]
+
 ghost use Rattle.std.specs.Prelude.{◌≡◌, cond, ◌≤◌, ◌<◌, length, get_or};
 ghost use Rattle.rules.specs.declared.Refusal.TheVariants.{Variable};
 ghost use Rattle.rules.specs.Page.{element};

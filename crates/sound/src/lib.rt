@@ -1,4 +1,6 @@
 // The test of number 35: that a state is a card.
+#![tactic(auto)]
+
 ghost use Rattle.std.specs.Prelude.{◌≡◌};
 ghost use Rattle.rules.specs.Page.{code_at};
 ghost use Rattle.rules.specs.Loader.{judge};

@@ -1,4 +1,6 @@
 // An accepted page starts on the state of a card (clause 6.1.3.3): at its first unit (House).
+#![tactic(auto)]
+
 ghost use Rattle.std.specs.Prelude.{◌≡◌, true, cond, ◌≤◌, length};
 ghost use Rattle.pour.specs.Pour.{padded};
 ghost use Rattle.rules.specs.Card.{Card};

@@ -1,4 +1,6 @@
 // What is written on a state (clauses 8.1 and 8.9): what is wrong with a Get Length, and laws of the writes.
+#![tactic(auto)]
+
 ghost use Rattle.std.specs.Prelude.{◌≡◌, ◌≤◌, length, []};
 ghost use Rattle.rules.specs.Page.{service};
 ghost use Rattle.rules.specs.Bytes.{part};
