@@ -1,10 +1,6 @@
 -- Lengths of parts, in the shape of what the proofs need.
 -- Assumes nothing.
-use Prim.Native.Nat.{ℕ, ◌-◌, ◌≤◌}
-use mathlib.Core.List.{List}
-use mathlib.Core.Path.{◌≡◌, ap}
-use native.Mathlib.Omega.{arith}
-use lib.ListN.{length, take, drop, get_or, length-take, length-drop}
+use Rattle.std.proofs.Common.{◌≡◌, ℕ, ◌-◌, ◌≤◌, List, length, take, drop, get_or, ap, arith, length-take, length-drop}
 use Rattle.rules.specs.Bytes.{part}
 use Rattle.word.specs.Word.{word_in}
 
