@@ -21,10 +21,12 @@ fn say_bytes(rt: &impl Print, bytes: &[u8]) -> io::Result<()>
 }
 
 // The first n bytes.
+#[tactic(auto, using(crate::proofs::PartLaws::part_fits))]
 fn say_front(rt: &impl Print, bytes: &[u8; 255], n: usize) -> io::Result<()> {
     say_bytes(rt, slice::part_of(bytes, 0, n))
 }
 
+#[tactic(auto, using(crate::proofs::PartLaws::word_fits))]
 fn say_word(rt: &impl Print, word: &[u8; 66]) -> io::Result<()> {
     say_bytes(rt, word::word_of(word))
 }
