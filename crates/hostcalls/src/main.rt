@@ -128,6 +128,7 @@ fn add(line: &mut [u8; 65536], held: usize, bytes: &[u8]) -> usize {
 }
 
 // A line has ended. One that is too long is no call.
+#[tactic(auto, using(saying::proofs::PartLaws::part_fits))]
 fn close(
     rt: &impl Print,
     machine: Machine,

@@ -14,5 +14,3 @@ part_fits s r a b n e l = let f : length r ≡ length (part s a b) = ap length e
 pub word_fits : (s r : List ℕ) → r ≡ word_in s → length s ≡ 66 → length r ≤ 255
 unfolding word_in
 word_fits s r e l = let f : length r ≡ length (word_in s) = ap length e in let g = take_drop_fits s (get_or s 0 0) 1 in omega (arith, f, g)
-
-pub ruleset part_laws = (part_fits, word_fits)
