@@ -3,7 +3,7 @@
 crate `trial` over the crate `rules`. Each script becomes a theorem, proved by computing, that the definitions give just these answers.
 
 FOLDER is a repository of its own in the making: it gets crates.txt, a copy of crates/rules without its proofs, and crates/trial.
-`rt check trial` there names the scripts whose answers differ. --first takes only the first N scripts, --most leaves out scripts with a page
+`rt check` in crates/trial names the scripts whose answers differ. --first takes only the first N scripts, --most leaves out scripts with a page
 of more than so many bytes."""
 import argparse
 import os

@@ -9,7 +9,7 @@ use native.Mathlib.Numerals.{add-one}
 use lib.ListN.{length, get_or, set, drop, length-set, drop_of_length-le}
 use lib.Seq.{drop-cons, length-take-le}
 use borrow.Author.Tests.{eq-eqb, ne_eqb}
-use Rattle.io.specs.Counts.{IsPrefixLen}
+use Rattle.lines.specs.Counts.{IsPrefixLen}
 use Rattle.lines.specs.Hex.{digit_of, all_digits, is_hex, byte_of, is_bytes, unhexed_from, unhexed, number_of, glyph, hexed_from, hexed}
 use Rattle.lines.specs.declared.Number.TheVariants.{Byte, NoByte}
 use lib.Dec.{eqb}

@@ -2,13 +2,13 @@
 #![tactic(auto)]
 
 ghost use Rattle.std.specs.Prelude.{◌≡◌, ◌+◌, ◌*◌, ◌≤◌, ◌/◌, length, drop};
-ghost use Rattle.io.specs.Counts.{IsPrefixLen};
+ghost use Rattle.lines.specs.Counts.{IsPrefixLen};
 ghost use Rattle.lines.specs.Hex.{digit_of, is_hex, is_bytes, byte_of, unhexed, number_of, hexed};
 ghost use Rattle.lines.specs.Hex.{glyph as Hex·glyph};
 ghost use Rattle.lines.specs.Words.{before, count_of};
 
 use leaf::wide;
-use libc::STDOUT_FILENO;
+use std::io;
 
 // A word of two hex digits, or none.
 #[derive(Drop)]
@@ -185,12 +185,11 @@ pub fn hex(bytes: &[u8], out: &mut [u8]) -> usize
 }
 
 // Text, on standard output.
-pub fn say(text: &[u8]) {
-    io::write_all(STDOUT_FILENO, text);
+pub fn say(rt: &impl Print, text: &[u8]) -> io::Result<()> {
+    rt.write_all(text)
 }
 
 // A number in decimal, after a blank.
-pub fn say_number(n: u64) {
-    say(b" ");
-    io::print_decimal(STDOUT_FILENO, n);
+pub fn say_number(rt: &impl Print, n: u64) -> io::Result<()> {
+    print!(rt; " {n}")
 }

@@ -1,12 +1,16 @@
 // Runs pages from records on standard input: payload length and kind, two bytes each, low byte first, then the payload.
 // Kind 1 is a page, kind 2 a terminal response. After a record that is answered 0 it takes up to 1,000 steps.
 // A record that is cut short or of another kind is named with its place in the input, and nothing after it is read.
-ghost use Rattle.std.specs.Prelude.{◌≡◌, ◌+◌, ◌*◌, ◌≤◌, length};
+#![tactic(auto)]
 
-use libc::STDIN_FILENO;
+ghost use Rattle.std.specs.Prelude.{◌≡◌, ◌+◌, ◌*◌, ◌≤◌, length, IfOk};
+ghost use Rattle.lines.specs.Counts.{IsPrefixLen};
+
 use lines::{say, say_number};
 use machine::Machine;
 use rules::{Loaded, Outcome, Stepped};
+use std::io;
+use std::io::Read;
 
 // The machine, and the steps taken since the last accepted load.
 #[derive(Drop)]
@@ -31,12 +35,12 @@ fn upper(digit: u8) -> u8 {
 }
 
 // A tag in upper-case hex, after a blank.
-fn say_tag(tag: u8) {
+fn say_tag(rt: &impl Print, tag: u8) -> io::Result<()> {
     let byte = [tag];
     let mut digits = [0u8; 2];
     lines::hex(&byte, &mut digits);
     let text = [b' ', upper(digits[0]), upper(digits[1])];
-    say(&text);
+    say(rt, &text)
 }
 
 // The answer of a step or a response.
@@ -71,91 +75,90 @@ fn ends(outcome: Outcome) -> bool {
     }
 }
 
-fn say_end(outcome: Outcome, steps: u64) {
-    if ends(outcome) {
-        say(b"end steps");
-        say_number(steps);
-        say(b"\n");
+fn say_end(rt: &impl Print, outcome: Outcome, steps: u64) -> io::Result<()> {
+    if !ends(outcome) {
+        return Ok(());
     }
+    say(rt, b"end steps")?;
+    say_number(rt, steps)?;
+    say(rt, b"\n")
 }
 
-fn say_step(steps: u64, stepped: Stepped) {
-    say(b"step");
-    say_number(steps);
-    say(b" unit");
-    say_number(stepped.unit as u64);
-    say(b" tag");
-    say_tag(stepped.tag);
-    say(b" answer");
+fn say_step(rt: &impl Print, steps: u64, stepped: Stepped) -> io::Result<()> {
+    say(rt, b"step")?;
+    say_number(rt, steps)?;
+    say(rt, b" unit")?;
+    say_number(rt, stepped.unit as u64)?;
+    say(rt, b" tag")?;
+    say_tag(rt, stepped.tag)?;
+    say(rt, b" answer")?;
     let outcome = stepped.outcome;
-    say_number(number(outcome) as u64);
-    say(b"\n");
-    say_end(outcome, steps);
+    say_number(rt, number(outcome) as u64)?;
+    say(rt, b"\n")?;
+    say_end(rt, outcome, steps)
 }
 
 // Up to 1,000 steps. Their count would start at 0 again only after more steps than any run takes.
-fn take_steps(host: Host) -> Host {
+fn take_steps(rt: &impl Print, host: Host) -> io::Result<Host> {
     let mut machine = host.machine;
     let mut steps = host.steps;
     let mut out = [0u8; 255];
-    let mut left: u64 = 1000;
-    while left > 0 {
+    for _ in 0..1000 {
         let taken = machine.step(&mut out);
         let stepped = taken.stepped;
         let outcome = stepped.outcome;
         machine = taken.machine;
-        steps = std::num::wrapping_add_u64(steps, 1);
-        say_step(steps, stepped);
+        steps = steps.wrapping_add(1);
+        say_step(rt, steps, stepped)?;
         if !goes_on(outcome) {
-            return Host { machine, steps };
+            return Ok(Host { machine, steps });
         }
-        left -= 1;
     }
-    Host { machine, steps }
+    Ok(Host { machine, steps })
 }
 
-fn say_load(answer: u8, bytes: usize) {
-    say(b"load");
-    say_number(answer as u64);
-    say_number(bytes as u64);
-    say(b"\n");
+fn say_load(rt: &impl Print, answer: u8, bytes: usize) -> io::Result<()> {
+    say(rt, b"load")?;
+    say_number(rt, answer as u64)?;
+    say_number(rt, bytes as u64)?;
+    say(rt, b"\n")
 }
 
-fn load(host: Host, page: &[u8]) -> Host {
+fn load(rt: &impl Print, host: Host, page: &[u8]) -> io::Result<Host> {
     let steps = host.steps;
     let begun = host.machine.load(page);
     let machine = begun.machine;
     let loaded = begun.loaded;
     match loaded {
         Loaded::Started => {
-            say_load(0, page.len());
-            take_steps(Host { machine, steps: 0 })
+            say_load(rt, 0, page.len())?;
+            take_steps(rt, Host { machine, steps: 0 })
         }
         Loaded::Faulty(class, offset) => {
-            say_load(class, page.len());
-            Host { machine, steps }
+            say_load(rt, class, page.len())?;
+            Ok(Host { machine, steps })
         }
         Loaded::Unloaded(why) => {
-            say_load(packing::number(why), page.len());
-            Host { machine, steps }
+            say_load(rt, packing::number(why), page.len())?;
+            Ok(Host { machine, steps })
         }
     }
 }
 
-fn respond(host: Host, response: &[u8]) -> Host {
+fn respond(rt: &impl Print, host: Host, response: &[u8]) -> io::Result<Host> {
     let steps = host.steps;
     let mut out = [0u8; 255];
     let answered = host.machine.respond(response, &mut out);
     let machine = answered.machine;
     let outcome = answered.outcome;
-    say(b"response");
-    say_number(number(outcome) as u64);
-    say(b"\n");
-    say_end(outcome, steps);
+    say(rt, b"response")?;
+    say_number(rt, number(outcome) as u64)?;
+    say(rt, b"\n")?;
+    say_end(rt, outcome, steps)?;
     if goes_on(outcome) {
-        return take_steps(Host { machine, steps });
+        return take_steps(rt, Host { machine, steps });
     }
-    Host { machine, steps }
+    Ok(Host { machine, steps })
 }
 
 // A number of two bytes, the low one first.
@@ -166,85 +169,109 @@ fn pair(low: u8, high: u8) -> usize
     leaf::wide(low) + 256 * leaf::wide(high)
 }
 
-fn say_cut(at: u64) {
-    say(b"record at byte");
-    say_number(at);
-    say(b" is cut short\n");
+fn say_cut(rt: &impl Print, at: u64) -> io::Result<()> {
+    say(rt, b"record at byte")?;
+    say_number(rt, at)?;
+    say(rt, b" is cut short\n")
 }
 
-fn say_kind(at: u64, kind: usize) {
-    say(b"record at byte");
-    say_number(at);
-    say(b" is of kind");
-    say_number(kind as u64);
-    say(b"\n");
+fn say_kind(rt: &impl Print, at: u64, kind: usize) -> io::Result<()> {
+    say(rt, b"record at byte")?;
+    say_number(rt, at)?;
+    say(rt, b" is of kind")?;
+    say_number(rt, kind as u64)?;
+    say(rt, b"\n")
+}
+
+// Reads until the bytes are full or the input ends, and tells how many came.
+fn read_full(reader: &mut impl Read, bytes: &mut [u8]) -> io::Result<usize>
+    ensures { IfOk result (λ n. IsPrefixLen n bytes.new) }
+{
+    let mut done = 0;
+    while done < bytes.len() {
+        let n = reader.read(&mut bytes[done..])?;
+        if n == 0 {
+            break;
+        }
+        done += n;
+    }
+    Ok(done)
 }
 
 // The payload is read and handed in.
-fn take_payload(host: Host, at: u64, kind: usize, payload: &mut [u8]) -> Turn
+fn take_payload(
+    rt: &impl Print,
+    reader: &mut impl Read,
+    host: Host,
+    at: u64,
+    kind: usize,
+    payload: &mut [u8],
+) -> io::Result<Turn>
     requires { length payload.old ≤ 65535 }
 {
-    let got = io::read_full(STDIN_FILENO, payload);
+    let got = read_full(reader, payload)?;
     if got < payload.len() {
-        say_cut(at);
-        return Turn { host, read: 0 };
+        say_cut(rt, at)?;
+        return Ok(Turn { host, read: 0 });
     }
     let read = 4 + got;
-    if kind == 1 {
-        return Turn {
-            host: load(host, payload),
-            read,
-        };
-    }
-    Turn {
-        host: respond(host, payload),
-        read,
-    }
+    let host = if kind == 1 {
+        load(rt, host, payload)?
+    } else {
+        respond(rt, host, payload)?
+    };
+    Ok(Turn { host, read })
 }
 
 // The record at a place of the input is read and answered.
-fn take_record(host: Host, at: u64, payload: &mut [u8]) -> Turn
+fn take_record(
+    rt: &impl Print,
+    reader: &mut impl Read,
+    host: Host,
+    at: u64,
+    payload: &mut [u8],
+) -> io::Result<Turn>
     requires { 65535 ≤ length payload.old }
 {
     let mut head = [0u8; 4];
-    let got = io::read_full(STDIN_FILENO, &mut head);
+    let got = read_full(reader, &mut head)?;
     if got == 0 {
-        return Turn { host, read: 0 };
+        return Ok(Turn { host, read: 0 });
     }
     if got < 4 {
-        say_cut(at);
-        return Turn { host, read: 0 };
+        say_cut(rt, at)?;
+        return Ok(Turn { host, read: 0 });
     }
     let kind = pair(head[2], head[3]);
     if kind == 0 {
-        say_kind(at, kind);
-        return Turn { host, read: 0 };
+        say_kind(rt, at, kind)?;
+        return Ok(Turn { host, read: 0 });
     }
     if 2 < kind {
-        say_kind(at, kind);
-        return Turn { host, read: 0 };
+        say_kind(rt, at, kind)?;
+        return Ok(Turn { host, read: 0 });
     }
     let count = pair(head[0], head[1]);
-    take_payload(host, at, kind, &mut payload[..count])
+    take_payload(rt, reader, host, at, kind, &mut payload[..count])
 }
 
-// Answers the records of the input. Nothing says that it ends, so the turns are counted down from a number that no run uses up.
-pub fn serve() {
-    let mut payload = io::large_buffer();
+// Answers the records of the input. Nothing says that it ends, so the turns are counted up to a number that no run reaches.
+pub fn serve(rt: &(impl Input + Print)) -> io::Result<()> {
+    let mut reader = rt.reader();
+    let mut payload = [0u8; 65536];
     let mut host = Host {
         machine: Machine::create(),
         steps: 0,
     };
     let mut at: u64 = 0;
-    let mut turns = u64::MAX;
-    while turns > 0 {
-        let turn = take_record(host, at, &mut payload);
+    for _ in 0..u64::MAX {
+        let turn = take_record(rt, &mut reader, host, at, &mut payload)?;
         let read = turn.read;
         if read == 0 {
-            return;
+            return Ok(());
         }
         host = turn.host;
-        at = std::num::wrapping_add_u64(at, read as u64);
-        turns -= 1;
+        at = at.wrapping_add(read as u64);
     }
+    Ok(())
 }

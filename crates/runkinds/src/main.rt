@@ -1,4 +1,8 @@
 // The program `runpage` on records of which one is of no kind.
-fn main() {
-    playing::serve();
+#![tactic(auto)]
+
+use std::io;
+
+fn main(rt: HostRuntime) -> io::Result<()> {
+    playing::serve(&rt)
 }

@@ -1,4 +1,8 @@
 // Runs pages and responses from records on standard input (docs/PROTOCOL.md).
-fn main() {
-    playing::serve();
+#![tactic(auto)]
+
+use std::io;
+
+fn main(rt: HostRuntime) -> io::Result<()> {
+    playing::serve(&rt)
 }

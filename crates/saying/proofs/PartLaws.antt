@@ -1,10 +1,6 @@
 -- Lengths of parts, in the shape of what the proofs need.
 -- Assumes nothing.
-use Prim.Native.Nat.{ℕ, ◌-◌, ◌≤◌}
-use mathlib.Core.List.{List}
-use mathlib.Core.Path.{◌≡◌, ap}
-use native.Mathlib.Omega.{arith}
-use lib.ListN.{length, take, drop, get_or, length-take, length-drop}
+use Rattle.std.proofs.Common.{◌≡◌, ℕ, ◌-◌, ◌≤◌, List, length, take, drop, get_or, ap, arith, length-take, length-drop}
 use Rattle.rules.specs.Bytes.{part}
 use Rattle.word.specs.Word.{word_in}
 
@@ -18,5 +14,3 @@ part_fits s r a b n e l = let f : length r ≡ length (part s a b) = ap length e
 pub word_fits : (s r : List ℕ) → r ≡ word_in s → length s ≡ 66 → length r ≤ 255
 unfolding word_in
 word_fits s r e l = let f : length r ≡ length (word_in s) = ap length e in let g = take_drop_fits s (get_or s 0 0) 1 in omega (arith, f, g)
-
-pub ruleset part_laws = (part_fits, word_fits)
