@@ -1,4 +1,6 @@
 // What a byte code does to the parts of a state, each lent by itself: endings, the history, the areas, a command that goes out.
+#![tactic(auto)]
+
 ghost use Rattle.std.specs.Prelude.{◌≡◌, true, false, cond, ◌∷◌, [], ℕ, ◌≤◌, ◌<◌, length, take, set};
 ghost use Rattle.rules.specs.declared.Judged.TheVariants.{Accepted};
 ghost use Rattle.rules.specs.Bytes.{part};

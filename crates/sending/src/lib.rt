@@ -1,4 +1,6 @@
 // A command that goes out: in hand, and its bytes in the lent buffer (8.7).
+#![tactic(auto)]
+
 ghost use Rattle.std.specs.Prelude.{◌≤◌, length};
 ghost use Rattle.rules.specs.Card.{Card};
 ghost use Rattle.rules.specs.Command.{command};

@@ -1,4 +1,6 @@
 // Where a step leads, found on the lent parts before anything is done.
+#![tactic(auto)]
+
 ghost use Rattle.std.specs.Prelude.{◌≡◌, cond, [], ◌+◌, ◌≤◌, length, get_or, take};
 ghost use Rattle.rules.specs.declared.Head.TheVariants.{Tlv};
 ghost use Rattle.rules.specs.declared.Refusal.TheVariants.{Disallowed};
