@@ -1,4 +1,6 @@
 // A terminal response (clauses 4.3.2 and 8.7.5): its results are stored, both or neither, and the handler's action is done.
+#![tactic(auto)]
+
 ghost use Rattle.std.specs.Prelude.{◌≡◌, true, false, ◌≤◌, length, take};
 ghost use Rattle.rules.specs.declared.Judged.TheVariants.{Accepted};
 ghost use Rattle.rules.specs.Loader.{judge};

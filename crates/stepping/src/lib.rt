@@ -1,4 +1,6 @@
 // A step of a page that runs, done in place on the lent parts of its state.
+#![tactic(auto)]
+
 ghost use Rattle.std.specs.Prelude.{◌≡◌, true, List, [], ◌∷◌, ℕ, ◌≤◌, length, take, set};
 ghost use Rattle.rules.specs.declared.Judged.TheVariants.{Accepted};
 ghost use Rattle.rules.specs.declared.Outcome.TheVariants.{Refused};

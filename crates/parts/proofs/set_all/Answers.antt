@@ -7,7 +7,5 @@ use Rattle.parts.proofs.set_all.Goals as goal
 pub set_all-requires : goal.set_all-requires
 set_all-requires c = search (rules, bound_laws)
 
-pub returns : goal.returns
-returns c =
-    let all = (search (rules, set_lent), c.set_all.ensures.1) in
-    record { perm_value = all.0; temp_unchanged = all.1.0; temp_after = all.1.1.0; perm_after = all.1.1.1 }
+pub returns-clause-perm_value : goal.returns-clause-perm_value
+returns-clause-perm_value c = search (rules, set_lent)

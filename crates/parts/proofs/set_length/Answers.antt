@@ -7,7 +7,5 @@ use Rattle.parts.proofs.set_length.Goals as goal
 pub set_length-requires : goal.set_length-requires
 set_length-requires c = search (rules, bound_laws)
 
-pub returns : goal.returns
-returns c =
-    let all = (search (rules, length_lent), c.set_length.ensures.1) in
-    record { to_value = all.0; temp_unchanged = all.1.0; temp_after = all.1.1.0; perm_after = all.1.1.1 }
+pub returns-clause-to_value : goal.returns-clause-to_value
+returns-clause-to_value c = search (rules, length_lent)
