@@ -1,4 +1,6 @@
 // The machine: the host's calls on a card.
+#![tactic(auto)]
+
 ghost use Rattle.std.specs.Prelude.{◌≡◌, true, false, cond, take, eqb};
 ghost use Rattle.rules.specs.declared.Outcome.TheVariants.{Refused};
 ghost use Rattle.rules.specs.declared.Refusal.TheVariants.{State as NoCard};

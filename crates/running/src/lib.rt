@@ -1,4 +1,6 @@
 // A run of steps, past the tests of 32, 35 and 33. The parts of the state are laid out once, and each step is done on them in place.
+#![tactic(auto)]
+
 ghost use Rattle.std.specs.Prelude.{◌≤◌, length};
 ghost use Rattle.rules.specs.Calls.{steps};
 ghost use Rattle.state.specs.State.{card};
