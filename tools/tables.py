@@ -159,7 +159,7 @@ def main():
     for k in range(0, len(KINDS), 4):
         show(f"cells{k}", f"CELLS_{k}", cells[k : k + 4])
     show("asked", "NEEDS", [needs(kind) for kind in KINDS])
-    show("beyondBits", "BEYONDS", [[c[1] for c in columns]])
+    show("beyond_bits", "BEYONDS", [[c[1] for c in columns]])
     show_octal("table", "SHAPES", [c[2] for c in columns])
     assert not any(size(tag) for tag in range(16, 256))
     show("limits", "SIZES", [[size(tag) for tag in range(16)]])

@@ -5,7 +5,7 @@ ghost use Rattle.std.specs.Prelude.{◌≡◌};
 ghost use Rattle.ber.specs.Form.{form_of};
 
 // The bytes of a length, zero past them, and how many they are.
-#[derive(Drop)]
+#[derive(Clone, Copy)]
 pub struct Form {
     pub bytes: [u8; 4],
     pub length: usize,

@@ -15,14 +15,14 @@ ghost use Rattle.branching.specs.Branch.{tried, branch_for, branch_choice};
 use rules::{Choice, Complaint, Head, Pair, Refusal};
 
 // What a case comes to: it does not match, or it settles the branch.
-#[derive(Drop)]
+#[derive(Clone, Copy)]
 pub enum Tried {
     Passed,
     Settled(Choice),
 }
 
 // What the byte code comes to before its reference is resolved: a refusal, no branch, or the reference that stands from a place up to another.
-#[derive(Drop)]
+#[derive(Clone, Copy)]
 pub enum Branch {
     Refused(Refusal),
     Onwards,

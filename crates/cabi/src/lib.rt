@@ -1,4 +1,6 @@
 // The interpreter for C: the state of a card lies in a lent buffer of 56,701 bytes, and what a call answers comes back packed in one number.
+#![tactic(auto)]
+
 ghost use Rattle.std.specs.Prelude.{◌≡◌, cond, [], ◌+◌, ◌*◌, ◌≤◌, length};
 ghost use Rattle.rules.specs.Loader.{judge};
 ghost use Rattle.rules.specs.Calls.{create, set_environment, load, step, run_up_to, respond, end, read_variable};

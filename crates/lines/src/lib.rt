@@ -11,14 +11,14 @@ use leaf::wide;
 use std::io;
 
 // A word of two hex digits, or none.
-#[derive(Drop)]
+#[derive(Clone, Copy)]
 pub enum Number {
     Byte(u8),
     NoByte,
 }
 
 // A word of decimal digits, or none.
-#[derive(Drop)]
+#[derive(Clone, Copy)]
 pub enum Count {
     Of(usize),
     NoCount,

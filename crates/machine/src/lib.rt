@@ -21,35 +21,35 @@ pub struct Machine {
 }
 
 // An environment write or an end: the machine after it, and the answer.
-#[derive(Drop)]
+#[derive(Clone, Copy)]
 pub struct Settled {
     pub machine: Machine,
     pub told: Told,
 }
 
 // A load.
-#[derive(Drop)]
+#[derive(Clone, Copy)]
 pub struct Begun {
     pub machine: Machine,
     pub loaded: Loaded,
 }
 
 // A step.
-#[derive(Drop)]
+#[derive(Clone, Copy)]
 pub struct Taken {
     pub machine: Machine,
     pub stepped: Stepped,
 }
 
 // A run of up to n steps.
-#[derive(Drop)]
+#[derive(Clone, Copy)]
 pub struct Gone {
     pub machine: Machine,
     pub ran: Ran,
 }
 
 // A response.
-#[derive(Drop)]
+#[derive(Clone, Copy)]
 pub struct Answered {
     pub machine: Machine,
     pub outcome: Outcome,

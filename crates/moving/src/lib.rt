@@ -21,7 +21,7 @@ use rules::{Action, Outcome, Refusal, Target};
 use state::State;
 
 // A state, and what brought it there.
-#[derive(Drop)]
+#[derive(Clone, Copy)]
 pub struct Moved {
     pub state: State,
     pub outcome: Outcome,

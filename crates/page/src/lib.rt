@@ -10,7 +10,7 @@ ghost use Rattle.page.specs.Span.{span_of};
 use rules::{Head, Pair, Part};
 
 // Where the TLVs in a TLV stand: from a place up to an end.
-#[derive(Drop)]
+#[derive(Clone, Copy)]
 pub struct Span {
     pub from: usize,
     pub end: usize,
@@ -134,7 +134,7 @@ pub fn service(s: &[u8]) -> Part
     page_part(s, 0x06)
 }
 
-// The n-th text, from 0, of the length_value_lem pairs from a place up to an end.
+// The n-th text, from 0, of the length-value pairs from a place up to an end.
 fn element_in(s: &[u8], n: usize, from: usize, end: usize) -> Part
     requires { end ≤ length s.now }
     ensures { result ≡ element_in n (pieces false s.now from end) }

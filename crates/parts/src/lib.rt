@@ -29,14 +29,14 @@ use rules::{Outcome, Ran, Target};
 use state::State;
 
 // The state after a run, with what ended it and the steps that it took.
-#[derive(Drop)]
+#[derive(Clone, Copy)]
 pub struct Course {
     pub state: State,
     pub ran: Ran,
 }
 
 // Where going back leads: nowhere, to a unit of the page, or to another page.
-#[derive(Drop)]
+#[derive(Clone, Copy)]
 pub enum Turn {
     Nowhere,
     Unit(usize),

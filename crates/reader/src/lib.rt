@@ -7,7 +7,7 @@ ghost use Rattle.reader.specs.Next.{next_at};
 
 use rules::Head;
 
-#[derive(Drop)]
+#[derive(Clone, Copy)]
 pub struct Reader<'a> {
     pub container: &'a [u8],
     pub place: usize,
@@ -54,7 +54,7 @@ pub fn next<'a>(reader: Reader<'a>) -> Reader<'a>
     }
 }
 
-// The TLV at a place of a container, by a reader: plain parameters, so that callers are covered.
+// The TLV at a place of a container, by a reader, on plain parameters.
 fn head_from(container: &[u8], place: usize) -> Head
     ensures { result ≡ head_at container.now place (length container.now) }
 {

@@ -42,7 +42,7 @@ unfoldable pub bad_anchor : List ℕ → ℕ → ℕ → ℕ → ℕ → Bool
 bad_anchor s at tag start stop =
     cond (eqb tag 0x0B) (cond (is_marked (mark (part s start stop))) true (taken_in s (part s start stop) at (page_row s))) false
 
--- Class 6: the sizes of names by their tags, sixty_four times the least and the most. The ignored byte of '03' is counted here.
+-- Class 6: the sizes of names by their tags, sixty-four times the least and the most. The ignored byte of '03' is counted here.
 unfoldable pub sizes : List Entry
 sizes =
     entry (1 * 64 + 32) (0x02 ∷ 0x0B ∷ []) ∷

@@ -167,7 +167,7 @@ pub struct Ran {
 }
 
 // A read's answer: 0 and the value with its type, zeros past it; or a number and zeros.
-#[derive(Drop)]
+#[derive(Clone, Copy)]
 pub struct Shown {
     pub number: u8,
     pub valuetype: u8,

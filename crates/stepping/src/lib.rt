@@ -17,7 +17,7 @@ use rules::{Outcome, Refusal};
 use ways::Way;
 
 // Where a step leads: on, to a unit and a place in it; to a command of a length that went out; to the page's end, for which the keep rule is still to be followed.
-#[derive(Drop)]
+#[derive(Clone, Copy)]
 pub enum Took {
     On(usize, usize),
     Sent(usize),

@@ -28,7 +28,7 @@ use rules::{Action, Complaint, Head, Refusal, Target};
 // to another page, by the reference from a place up to another; back;
 // to a Set Variable whose pairs stand from a place up to another; to a Get Length of a number, with its list from a place up to another and its end;
 // to a command, by its tag and its value.
-#[derive(Drop)]
+#[derive(Clone, Copy)]
 pub enum Way {
     Enter(usize),
     Place(usize),

@@ -1,0 +1,14 @@
+-- `cabi::usat_run` meets its contract.
+use Rattle.cabi.proofs.ServeLaws.{misfit_laws, serve_laws}
+use Rattle.cabi.proofs.FitLaws.{fit_laws}
+use borrow.Author.Rules.{rules}
+use Rattle.cabi.proofs.usat_run.Goals as goal
+
+pub returns-then-state-ne-SIZE : goal.returns-then-state-ne-SIZE
+returns-then-state-ne-SIZE c = search (rules, misfit_laws, serve_laws, fit_laws)
+
+pub pack_ran-requires : goal.pack_ran-requires
+pack_ran-requires c = search (rules, misfit_laws, serve_laws, fit_laws)
+
+pub returns : goal.returns
+returns c = search (rules, misfit_laws, serve_laws, fit_laws)
