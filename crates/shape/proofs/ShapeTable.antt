@@ -1,9 +1,9 @@
 -- The code's table of shapes, and its rule: every entry is what the rules say, by one computed test.
 -- Assumes nothing.
-use Prim.Native.Nat.{ℕ, ◌^◌, ◌<◌}
+use Prim.Native.Nat.{ℕ, ◌<◌}
 use mathlib.Core.List.{List, [], ◌∷◌}
 use mathlib.Core.Path.{◌≡◌}
-use lib.Dec.{eqb, ltb, eqb→eq, ltb→lt}
+use lib.Dec.{eqb, eqb→eq}
 use lib.ListN.{get_or}
 use Rattle.rules.specs.Bytes.{among, hex_to, hex}
 use Rattle.rules.specs.Shape.{shapes, number_in, shape_of}
@@ -24,8 +24,3 @@ shape_right t h =
 -- the same, as the code reads it
 pub shape_read : (t c : ℕ) → t < 256 → c ≡ column_of t → get_or table c 0 ≡ shape_of t
 shape_read t c h e = rw e (shape_right t h)
-
--- every entry is a number of the machine
-pub shape_small : (c : ℕ) → c < 32 → get_or table c 0 < 2 ^ 64
-unfolding table
-shape_small c h = ltb→lt (get_or table c 0) (2 ^ 64) (every_at 32 (λ c. ltb (get_or table c 0) (2 ^ 64)) tt c h)

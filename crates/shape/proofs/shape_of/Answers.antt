@@ -1,11 +1,7 @@
 -- `shape_of` reads the shape of the rules off its table.
 use native.Mathlib.Omega.{arith}
-use Rattle.shape.proofs.ShapeTable.{table, shape_small, shape_read}
+use Rattle.shape.proofs.ShapeTable.{table, shape_read}
 use Rattle.shape.proofs.shape_of.Goals as goal
-
-pub overflow_cast-result : goal.overflow_cast-result
-unfolding table
-overflow_cast-result c = record { fits = shape_small _ c.column_of-c.ensures.upper_bound }
 
 pub returns : goal.returns
 unfolding table
