@@ -7,9 +7,6 @@ use mathlib.Core.Path.{◌≡◌, refl, sym, ap, ◌∙◌}
 use native.Mathlib.Omega.{arith}
 use lib.ListN.{length, get_or, take, drop, length-take, length-drop}
 use Rattle.leaf.proofs.Cases.{both, told_as}
-use Rattle.rules.specs.declared.Head.{Head}
-use Rattle.rules.specs.declared.Head.TheVariants.{Tlv, Past}
-use Rattle.rules.specs.declared.Judged.TheVariants.{Accepted}
 use Rattle.rules.specs.declared.Action.{Action}
 use Rattle.rules.specs.declared.Action.TheVariants.{Pass, Next, Quit, Back, Retry, Go}
 use Rattle.rules.specs.declared.Target.{Target}
@@ -49,6 +46,8 @@ use Rattle.sending.specs.Sent.{Sends}
 use Rattle.answering.proofs.Silent.{silent_quiet, perform_silent}
 use Rattle.results.specs.Asked.{asked}
 use Rattle.answering.specs.Answering.{is_retry, is_lacking, lacks_in}
+use Rattle.std.specs.Prelude.{Option, None, Ok, Some}
+use Rattle.rules.specs.declared.Tlv.{Tlv}
 
 bounded : (s : List ℕ) (a : Action) → GoRef s a → Bounded s a
 bounded s Pass g = tt
@@ -58,11 +57,11 @@ bounded s Back g = tt
 bounded s Retry g = tt
 bounded s (Go start stop) g = (bounds 2 65 (length (part s start stop)) g).1
 
-module _ (s p : List ℕ) (e : s ≡ p) (k place : ℕ) (h : Head) (g : h ≡ code_at s k place) (tag start stop : ℕ) (x : h ≡ Tlv tag start stop) where
-  pub code_ordered : start ≤ stop
+module _ (s p : List ℕ) (e : s ≡ p) (k place : ℕ) (h : Option Tlv) (g : h ≡ code_at s k place) (v : Tlv) (x : h ≡ Some v) where
+  pub code_ordered : v.start ≤ v.stop
   code_ordered = (code_tlv s k place (sym g ∙ x)).1
 
-  pub code_inside : stop ≤ length p
+  pub code_inside : v.stop ≤ length p
   code_inside = rw (← e) (code_tlv s k place (sym g ∙ x)).2
 
 pub ruleset code_bounds = (code_ordered, code_inside)
@@ -158,12 +157,12 @@ module _ (m : State) (c : Card) (is : Is m c) (before after : List ℕ) (o : Mov
         let v : w ≡ in_hand c.run.hand = x ∙ hand_word m.hand c.run.hand is.hand h in
         rw (is_again c next (send (in_hand c.run.hand)) a (sym e ∙ g), ← v) (f c is)
 
-    pub follow_other : b ≡ false → judge c.run.page ≡ Accepted → history_fine c.history ≡ true → Bounded c.run.page a
-        → ((d : Card) → Is m d → judge d.run.page ≡ Accepted → history_fine d.history ≡ true → Bounded d.run.page a → Comes o (applied d (perform d next finish a))) → Sends o before before (applied c (perform c next (send (in_hand c.run.hand)) a))
+    pub follow_other : b ≡ false → judge c.run.page ≡ Ok tt → history_fine c.history ≡ true → Bounded c.run.page a
+        → ((d : Card) → Is m d → judge d.run.page ≡ Ok tt → history_fine d.history ≡ true → Bounded d.run.page a → Comes o (applied d (perform d next finish a))) → Sends o before before (applied c (perform c next (send (in_hand c.run.hand)) a))
     follow_other g ok h k f =
         rw (not_again c next (send (in_hand c.run.hand)) a (sym e ∙ g)) (record { comes = f c is ok h k; buffer = silent_quiet c (perform c next finish a) (perform_silent c next a) before })
 
-  module _ (tag start stop g : ℕ) (w : List ℕ) (rest : Head) (a : Action) (lacking : lacks_in c.run.page a ≡ false) (s : List ℕ) (p : s ≡ take m.len m.page)
+  module _ (tag start stop g : ℕ) (w : List ℕ) (rest : Option Tlv) (a : Action) (lacking : lacks_in c.run.page a ≡ false) (s : List ℕ) (p : s ≡ take m.len m.page)
       (attributes at : ℕ) (x : attributes ≡ attribute s tag start stop) (y : at ≡ content_at s tag start stop) (t q : List ℕ) (b : Bool)
       (e : (env : List ℕ) (z : ℕ) → results (view s env m.temporary m.permanent) (asked attributes at z) g w rest ≡ cond b (wrote (view s env t q)) no_room) where
     results_are : results c (execute_of c.run.page tag start stop) g w rest ≡ lift c (cond b (wrote (view s m.environment t q)) no_room)
@@ -176,39 +175,39 @@ module _ (m : State) (c : Card) (is : Is m c) (before after : List ℕ) (o : Mov
     unfolding with_results
     plan_is = rw (performs c stop (send (in_hand c.run.hand)) a lacking) (ap (storing (move_for c.run.page stop (send (in_hand c.run.hand)) a)) results_are)
 
-    pub results_stored : b ≡ true → (tidy_slots m.temporary ≡ true → tidy_slots t ≡ true) → (tidy_records m.permanent ≡ true → tidy_records q ≡ true) → judge c.run.page ≡ Accepted → history_fine c.history ≡ true → Bounded c.run.page a → is_empty c.run.hand ≡ false
-        → ((d : Card) → Is (record { page = m.page; len = m.len; environment = m.environment; temporary = t; permanent = q; trail = m.trail; guard = m.guard; hand = m.hand; wanted = m.wanted; unit = m.unit; place = m.place }) d → judge d.run.page ≡ Accepted → history_fine d.history ≡ true → Bounded d.run.page a → is_empty d.run.hand ≡ false → Sends o before after (applied d (perform d stop (send (in_hand d.run.hand)) a)))
+    pub results_stored : b ≡ true → (tidy_slots m.temporary ≡ true → tidy_slots t ≡ true) → (tidy_records m.permanent ≡ true → tidy_records q ≡ true) → judge c.run.page ≡ Ok tt → history_fine c.history ≡ true → Bounded c.run.page a → is_empty c.run.hand ≡ false
+        → ((d : Card) → Is (record { page = m.page; len = m.len; environment = m.environment; temporary = t; permanent = q; trail = m.trail; guard = m.guard; hand = m.hand; wanted = m.wanted; unit = m.unit; place = m.place }) d → judge d.run.page ≡ Ok tt → history_fine d.history ≡ true → Bounded d.run.page a → is_empty d.run.hand ≡ false → Sends o before after (applied d (perform d stop (send (in_hand d.run.hand)) a)))
         → Sends o before after (applied c (with_results (results c (execute_of c.run.page tag start stop) g w rest) (perform c stop (send (in_hand c.run.hand)) a)))
     unfolding lift storing applied view seen
     results_stored h i j ok k l n f =
         rw (plan_is, h) (rw (performs (over c (records q) (slots t)) stop (send (in_hand c.run.hand)) a lacking) at (f (over c (records q) (slots t)) (stored_is m c is s p t q i j) ok k l n))
 
-    pub results_full : b ≡ false → judge c.run.page ≡ Accepted → ((d : Card) → Is m d → judge d.run.page ≡ Accepted → Comes o (applied d (refuses Memory))) → Sends o before before (applied c (with_results (results c (execute_of c.run.page tag start stop) g w rest) (perform c stop (send (in_hand c.run.hand)) a)))
+    pub results_full : b ≡ false → judge c.run.page ≡ Ok tt → ((d : Card) → Is m d → judge d.run.page ≡ Ok tt → Comes o (applied d (refuses Memory))) → Sends o before before (applied c (with_results (results c (execute_of c.run.page tag start stop) g w rest) (perform c stop (send (in_hand c.run.hand)) a)))
     unfolding lift storing applied buffer_after
     results_full h ok f = rw (plan_is, h) (record { comes = f c is ok; buffer = refl })
 
-module _ (m : State) (c : Card) (is : Is m c) (r : Running c) (o : Moved) (s : List ℕ) (p : s ≡ take m.len m.page) (h : Head) (e : h ≡ code_at s m.unit m.place) (g : ℕ) (w : List ℕ) (rest : Head) (before : List ℕ) where
+module _ (m : State) (c : Card) (is : Is m c) (r : Running c) (o : Moved) (s : List ℕ) (p : s ≡ take m.len m.page) (h : Option Tlv) (e : h ≡ code_at s m.unit m.place) (g : ℕ) (w : List ℕ) (rest : Option Tlv) (before : List ℕ) where
   at_place : here c ≡ h
   unfolding here
   at_place = sym (rw (page_is m c is s p, is.unit, is.place) at e)
 
-  pub answer_out : h ≡ Past → ((d : Card) → Is m d → judge d.run.page ≡ Accepted → Comes o (effect Ended (rested d))) → Sends o before before (answered c g w rest)
+  pub answer_out : h ≡ None → ((d : Card) → Is m d → judge d.run.page ≡ Ok tt → Comes o (effect Ended (rested d))) → Sends o before before (answered c g w rest)
   unfolding answered answer_for applied
   answer_out x f = rw (at_place, x) (record { comes = f c is r.accepted; buffer = silent_quiet c runs_out tt before })
 
-  module _ (tag start stop : ℕ) (x : h ≡ Tlv tag start stop) (a : Action) (y : a ≡ handle s m.unit g) (b : Bool) (z : b ≡ lacks_in s a) where
+  module _ (v : Tlv) (x : h ≡ Some v) (a : Action) (y : a ≡ handle s m.unit g) (b : Bool) (z : b ≡ lacks_in s a) where
     action_is : handle c.run.page c.run.unit g ≡ a
     action_is = sym (rw (page_is m c is s p, is.unit) at y)
 
-    pub answer_lacks : b ≡ true → ((d : Card) → Is m d → judge d.run.page ≡ Accepted → Comes o (applied d (refuses Anchor))) → Sends o before before (answered c g w rest)
+    pub answer_lacks : b ≡ true → ((d : Card) → Is m d → judge d.run.page ≡ Ok tt → Comes o (applied d (refuses Anchor))) → Sends o before before (answered c g w rest)
     unfolding answered answer_for answer_by with_results execute_of
     answer_lacks k f =
         let l : lacks_in c.run.page a ≡ true = sym (rw (page_is m c is s p) at z) ∙ k in
-        rw (at_place, x, action_is, perform_lacks c stop (send (in_hand c.run.hand)) a l) (record { comes = f c is r.accepted; buffer = silent_quiet c (refuses Anchor) tt before })
+        rw (at_place, x, action_is, perform_lacks c v.stop (send (in_hand c.run.hand)) a l) (record { comes = f c is r.accepted; buffer = silent_quiet c (refuses Anchor) tt before })
 
     pub answer_goes : b ≡ false → is_empty c.run.hand ≡ false → (after : List ℕ)
-        → ((d : Card) → Is m d → judge d.run.page ≡ Accepted → history_fine d.history ≡ true → Bounded d.run.page a → is_empty d.run.hand ≡ false → lacks_in d.run.page a ≡ false
-        → Sends o before after (applied d (with_results (results d (execute_of d.run.page tag start stop) g w rest) (perform d stop (send (in_hand d.run.hand)) a))))
+        → ((d : Card) → Is m d → judge d.run.page ≡ Ok tt → history_fine d.history ≡ true → Bounded d.run.page a → is_empty d.run.hand ≡ false → lacks_in d.run.page a ≡ false
+        → Sends o before after (applied d (with_results (results d (execute_of d.run.page v.tag v.start v.stop) g w rest) (perform d v.stop (send (in_hand d.run.hand)) a))))
         → Sends o before after (answered c g w rest)
     unfolding answered answer_for answer_by execute_of
     answer_goes k n after f =

@@ -1,8 +1,7 @@
 // A terminal response (clauses 4.3.2 and 8.7.5): its results are stored, both or neither, and the handler's action is done.
 #![tactic(auto)]
 
-ghost use Rattle.std.specs.Prelude.{◌≡◌, true, false, ◌≤◌, length, take};
-ghost use Rattle.rules.specs.declared.Judged.TheVariants.{Accepted};
+ghost use Rattle.std.specs.Prelude.{◌≡◌, true, false, ◌≤◌, length, take, Ok};
 ghost use Rattle.rules.specs.Loader.{judge};
 ghost use Rattle.rules.specs.Page.{service};
 ghost use Rattle.rules.specs.Card.{Card, is_empty, in_hand};
@@ -16,44 +15,33 @@ ghost use Rattle.sending.specs.Sent.{Sends};
 ghost use Rattle.answering.specs.Answering.{is_retry, is_lacking, lacks_in};
 
 use moving::Moved;
-use rules::{Action, Head, Refusal, Target};
+use rules::{Action, Refusal, Target, Tlv};
 use state::State;
+use writing::NoMemory;
 
 // The same command again.
+#[tactic(auto, unfolding(crate::specs::Answering::is_retry))]
 fn is_retry(action: Action) -> bool
     ensures { result ≡ is_retry action }
 {
-    match action {
-        Action::Pass => false,
-        Action::Next => false,
-        Action::Quit => false,
-        Action::Back => false,
-        Action::Retry => true,
-        Action::Go(start, stop) => false,
-    }
+    matches!(action, Action::Retry)
 }
 
 // The page lacks the anchor.
+#[tactic(auto, unfolding(crate::specs::Answering::is_lacking))]
 fn is_lacking(t: Target) -> bool
     ensures { result ≡ is_lacking t }
 {
-    match t {
-        Target::Unit(k) => false,
-        Target::Lacking => true,
-        Target::Other => false,
-    }
+    matches!(t, Target::Lacking)
 }
 
 // A branch to an anchor of the page's own that it lacks.
+#[tactic(auto, using(crate::proofs::AnswerLaws::lacks_laws), unfolding(crate::specs::Answering::lacks_in))]
 fn lacks(page: &[u8], action: Action) -> bool
     ensures { result ≡ lacks_in page.now action }
 {
     match action {
-        Action::Pass => false,
-        Action::Next => false,
-        Action::Quit => false,
-        Action::Back => false,
-        Action::Retry => false,
+        Action::Pass | Action::Next | Action::Quit | Action::Back | Action::Retry => false,
         Action::Go(start, stop) => is_lacking(reference::target(
             page,
             slice::part_of(page, start, stop),
@@ -64,7 +52,7 @@ fn lacks(page: &[u8], action: Action) -> bool
 // What the action does, with a command in hand.
 fn follow(state: State, next: usize, action: Action, out: &mut [u8]) -> Moved
     requires { 255 ≤ length out.old }
-    ensures { (c : Card) → Is state c → judge c.run.page ≡ Accepted → history_fine c.history ≡ true → Bounded c.run.page action → is_empty c.run.hand ≡ false → Sends result out.old out.new (applied c (perform c next (send (in_hand c.run.hand)) action)) }
+    ensures { (c : Card) → Is state c → judge c.run.page ≡ Ok tt → history_fine c.history ≡ true → Bounded c.run.page action → is_empty c.run.hand ≡ false → Sends result out.old out.new (applied c (perform c next (send (in_hand c.run.hand)) action)) }
 {
     if is_retry(action) {
         let hand = state.hand;
@@ -76,25 +64,23 @@ fn follow(state: State, next: usize, action: Action, out: &mut [u8]) -> Moved
 // The results of the response to an Execute USAT Command, both or neither; then the action.
 fn store_results(
     mut state: State,
-    tag: u8,
-    start: usize,
-    stop: usize,
+    tlv: Tlv,
     general: u8,
     response: &[u8],
-    after: Head,
+    after: Option<Tlv>,
     action: Action,
     out: &mut [u8],
 ) -> Moved
-    requires { (start ≤ stop) × (stop ≤ length (take state.len state.page)) × (length (service (take state.len state.page)) ≤ 16) × (255 ≤ length out.old) }
-    ensures { (c : Card) → Is state c → judge c.run.page ≡ Accepted → history_fine c.history ≡ true → Bounded c.run.page action → is_empty c.run.hand ≡ false → lacks_in c.run.page action ≡ false → Sends result out.old out.new (applied c (with_results (results c (execute_of c.run.page tag start stop) general response.now after) (perform c stop (send (in_hand c.run.hand)) action))) }
+    requires { (tlv.start ≤ tlv.stop) × (tlv.stop ≤ length (take state.len state.page)) × (length (service (take state.len state.page)) ≤ 16) × (255 ≤ length out.old) }
+    ensures { (c : Card) → Is state c → judge c.run.page ≡ Ok tt → history_fine c.history ≡ true → Bounded c.run.page action → is_empty c.run.hand ≡ false → lacks_in c.run.page action ≡ false → Sends result out.old out.new (applied c (with_results (results c (execute_of c.run.page tlv.tag tlv.start tlv.stop) general response.now after) (perform c tlv.stop (send (in_hand c.run.hand)) action))) }
 {
     let copy = state.page;
     let page = state::page_of(&copy, state.len);
-    let attributes = tlv::attribute_of(page, tag, start, stop);
-    let at = tlv::content_at(page, tag, start, stop);
+    let attributes = tlv::attribute_of(page, tlv);
+    let at = tlv::content_at(page, tlv);
     let mut temporary = state.temporary;
     let mut permanent = state.permanent;
-    if whole::write_results(
+    match whole::write_results(
         page,
         &mut temporary,
         &mut permanent,
@@ -104,27 +90,33 @@ fn store_results(
         response,
         after,
     ) {
-        state.temporary = temporary;
-        state.permanent = permanent;
-        return follow(state, stop, action, out);
+        Ok(()) => {
+            state.temporary = temporary;
+            state.permanent = permanent;
+            follow(state, tlv.stop, action, out)
+        }
+        Err(NoMemory) => moving::fail(state, Refusal::Memory),
     }
-    moving::fail(state, Refusal::Memory)
 }
 
 // A response with its general result, and the TLV after that: 17 for the handler's branch, then 18, then the results and the action.
-pub fn answer(state: State, general: u8, response: &[u8], after: Head, out: &mut [u8]) -> Moved
+pub fn answer(
+    state: State,
+    general: u8,
+    response: &[u8],
+    after: Option<Tlv>,
+    out: &mut [u8],
+) -> Moved
     requires { (length (service (take state.len state.page)) ≤ 16) × (255 ≤ length out.old) }
     ensures { (c : Card) → Is state c → Running c → is_empty c.run.hand ≡ false → Sends result out.old out.new (answered c general response.now after) }
 {
     let page = state::page_of(&state.page, state.len);
-    let Head::Tlv(tag, start, stop) = unit::code_at(page, state.unit, state.place) else {
+    let Some(tlv) = unit::code_at(page, state.unit, state.place) else {
         return moving::run_out(state);
     };
     let action = handler::handle(page, state.unit, general);
     if lacks(page, action) {
         return moving::fail(state, Refusal::Anchor);
     }
-    store_results(
-        state, tag, start, stop, general, response, after, action, out,
-    )
+    store_results(state, tlv, general, response, after, action, out)
 }

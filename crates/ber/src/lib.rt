@@ -12,34 +12,34 @@ pub struct Form {
 }
 
 // A length in the shortest form.
+#[tactic(auto, unfolding(crate::specs::Form::form_of, rules::specs::Value::shortest, pour::specs::Pour::padded))]
 pub fn shortest(n: usize) -> Form
     ensures { result ≡ form_of n }
 {
     if n < 128 {
-        return Form {
+        Form {
             bytes: [n as u8, 0, 0, 0],
             length: 1,
-        };
-    }
-    if n < 256 {
-        return Form {
+        }
+    } else if n < 256 {
+        Form {
             bytes: [0x81, n as u8, 0, 0],
             length: 2,
-        };
-    }
-    if n < 65536 {
-        return Form {
+        }
+    } else if n < 65536 {
+        Form {
             bytes: [0x82, (n / 256) as u8, (n % 256) as u8, 0],
             length: 3,
-        };
-    }
-    Form {
-        bytes: [
-            0x83,
-            (n / 65536 % 256) as u8,
-            (n / 256 % 256) as u8,
-            (n % 256) as u8,
-        ],
-        length: 4,
+        }
+    } else {
+        Form {
+            bytes: [
+                0x83,
+                (n / 65536 % 256) as u8,
+                (n / 256 % 256) as u8,
+                (n % 256) as u8,
+            ],
+            length: 4,
+        }
     }
 }

@@ -6,8 +6,6 @@ use mathlib.Core.List.{List, [], append-nil}
 use mathlib.Core.Path.{◌≡◌, refl, sym, ◌∙◌}
 use lib.ListN.{get_or, take, drop}
 use borrow.Author.Tests.{eq-eqb, ne_eqb}
-use Rattle.rules.specs.declared.Head.{Head}
-use Rattle.rules.specs.declared.Head.TheVariants.{Tlv, Past}
 use Rattle.rules.specs.declared.Choice.{Choice}
 use Rattle.rules.specs.declared.Choice.TheVariants.{Follow, Stay, Unknown}
 use Rattle.rules.specs.declared.Complaint.{Complaint}
@@ -23,53 +21,36 @@ use Rattle.rules.specs.Value.{pieces_of, defined, complaint, joined}
 use Rattle.rules.specs.Step.{case_value, cases_complaint, follow, follow_in, is_undefined, case_choice, choose}
 use Rattle.leaf.proofs.Cases.{both, was}
 use Rattle.tlv.proofs.Rows.{row_done, row_tlv, row_past}
+use Rattle.variable.specs.Refused.{refusal_of}
 use Rattle.variable.specs.View.{seen, view}
 use Rattle.variable.proofs.ComplaintLaws.{nothing_worse}
 use Rattle.piece.specs.Piece.{pieces_from}
-use Rattle.branching.specs.declared.Tried.{Tried}
-use Rattle.branching.specs.declared.Tried.TheVariants.{Passed, Settled}
-use Rattle.branching.specs.declared.Branch.{Branch}
-use Rattle.branching.specs.declared.Branch.TheVariants.{Refused, Onwards, Towards}
 use Rattle.branching.specs.Branch.{tried, refused_by, branch_for, branch_slot, branch_choice}
+use Rattle.std.specs.Prelude.{Option, Some, None, Result, Ok, Err}
+use Rattle.rules.specs.declared.Tlv.{Tlv}
+use Rattle.rules.specs.declared.Span.{Span}
+use Rattle.rules.specs.declared.Refusal.{Refusal}
+use Rattle.branching.specs.Branch.{towards}
 
-module _ (h : Head) where
-  pub follow_this : (tag start stop : ℕ) → h ≡ Tlv tag start stop → Follow start stop ≡ follow h
+module _ (h : Option Tlv) where
+  pub follow_this : (v : Tlv) → h ≡ Some v → Follow v.start v.stop ≡ follow h
   unfolding follow
-  follow_this tag start stop x = simp x
+  follow_this v x = simp x
 
-  pub follow_none : h ≡ Past → Stay ≡ follow h
+  pub follow_none : h ≡ None → Stay ≡ follow h
   unfolding follow
   follow_none x = simp x
 
-  module _ (s : List ℕ) (r : Head) (is : r ≡ h) where
-    pub follow_in_this : (tag start stop : ℕ) → r ≡ Tlv tag start stop → (k : Head) → k ≡ head_at s start stop → (c : Choice) → c ≡ follow k → c ≡ follow_in s h
+  module _ (s : List ℕ) (r : Option Tlv) (is : r ≡ h) where
+    pub follow_in_this : (v : Tlv) → r ≡ Some v → (k : Option Tlv) → k ≡ head_at s v.start v.stop → (c : Choice) → c ≡ follow k → c ≡ follow_in s h
     unfolding follow_in
-    follow_in_this tag start stop x k f c e = simp (was is x, ← f) e
+    follow_in_this v x k f c e = simp (was is x, ← f) e
 
-    pub follow_in_none : r ≡ Past → Stay ≡ follow_in s h
+    pub follow_in_none : r ≡ None → Stay ≡ follow_in s h
     unfolding follow_in
     follow_in_none x = simp (was is x)
 
 pub ruleset follow_laws = (follow_this, follow_none, follow_in_this, follow_in_none)
-
-module _ (c : Complaint) where
-  pub is_nothing : c ≡ Nothing → false ≡ is_undefined c
-  unfolding is_undefined
-  is_nothing e = simp e
-
-  pub is_undefined_lem : c ≡ Undefined → true ≡ is_undefined c
-  unfolding is_undefined
-  is_undefined_lem e = simp e
-
-  pub is_secured : c ≡ Secured → false ≡ is_undefined c
-  unfolding is_undefined
-  is_secured e = simp e
-
-  pub is_misused : c ≡ Misused → false ≡ is_undefined c
-  unfolding is_undefined
-  is_misused e = simp e
-
-pub ruleset undefined_laws = (is_nothing, is_undefined_lem, is_secured, is_misused)
 
 not_known : (r : Complaint) → defined false r ≡ r
 unfolding defined
@@ -100,41 +81,41 @@ module _ (c : Card) (s : List ℕ) (tag from to : ℕ) where
 
 pub ruleset value_laws = (value_first_told, value_first_is, value_inline_told, value_inline_is)
 
-module _ (page env temp perm bytes : List ℕ) (stop : ℕ) (h r : Head) (is : r ≡ h) where
+module _ (page env temp perm bytes : List ℕ) (stop : ℕ) (h r : Option Tlv) (is : r ≡ h) where
   abbrev c : Card
   c = view page env temp perm
 
-  pub tried_none : r ≡ Past → Passed ≡ tried c bytes stop h
+  pub tried_none : r ≡ None → None ≡ tried c bytes stop h
   unfolding tried
   tried_none x = simp (was is x)
 
-  module _ (tag from to : ℕ) (x : r ≡ Tlv tag from to) (k : Complaint) (e : k ≡ complaint c [] (case_value page tag from to)) (u : Bool) (f : u ≡ is_undefined k) where
-    pub tried_undefined : u ≡ true → Settled Unknown ≡ tried c bytes stop h
+  module _ (v : Tlv) (x : r ≡ Some v) (k : Complaint) (e : k ≡ complaint c [] (case_value page v.tag v.start v.stop)) (u : Bool) (f : u ≡ is_undefined k) where
+    pub tried_undefined : u ≡ true → Some Unknown ≡ tried c bytes stop h
     unfolding tried view seen
     tried_undefined y = simp (was is x, ← e, was f y)
 
-    module _ (y : u ≡ false) (b : Bool) (g : b ≡ same (joined c (case_value page tag from to)) bytes) where
-      pub tried_match : b ≡ true → (d : Choice) → d ≡ follow_in page (head_at page to stop) → Settled d ≡ tried c bytes stop h
+    module _ (y : u ≡ false) (b : Bool) (g : b ≡ same (joined c (case_value page v.tag v.start v.stop)) bytes) where
+      pub tried_match : b ≡ true → (d : Choice) → d ≡ follow_in page (head_at page v.stop stop) → Some d ≡ tried c bytes stop h
       unfolding tried view seen
       tried_match z d w = simp (was is x, ← e, was f y, was g z, ← w)
 
-      pub tried_other : b ≡ false → Passed ≡ tried c bytes stop h
+      pub tried_other : b ≡ false → None ≡ tried c bytes stop h
       unfolding tried view seen
       tried_other z = simp (was is x, ← e, was f y, was g z)
 
 pub ruleset tried_laws = (tried_none, tried_undefined, tried_match, tried_other)
 
 -- one case and the rest
-unfoldable or_rest : Choice → Tried → Choice
-or_rest rest Passed = rest
-or_rest rest (Settled d) = d
+unfoldable or_rest : Choice → Option Choice → Choice
+or_rest rest None = rest
+or_rest rest (Some d) = d
 
-choice_tried : (c : Card) (bytes : List ℕ) (stop : ℕ) (rest : Choice) (h : Head) → case_choice c bytes stop rest h ≡ or_rest rest (tried c bytes stop h)
+choice_tried : (c : Card) (bytes : List ℕ) (stop : ℕ) (rest : Choice) (h : Option Tlv) → case_choice c bytes stop rest h ≡ or_rest rest (tried c bytes stop h)
 unfolding case_choice tried or_rest
-choice_tried c bytes stop rest (Tlv tag from to) =
-    both (is_undefined (complaint c [] (case_value c.run.page tag from to))) (λ t. simp t)
-    (λ t. both (same (joined c (case_value c.run.page tag from to)) bytes) (λ t2. simp (t, t2)) (λ t2. simp (t, t2)))
-choice_tried c bytes stop rest Past = refl
+choice_tried c bytes stop rest (Some h) =
+    both (is_undefined (complaint c [] (case_value c.run.page h.tag h.start h.stop))) (λ t. simp t)
+    (λ t. both (same (joined c (case_value c.run.page h.tag h.start h.stop)) bytes) (λ t2. simp (t, t2)) (λ t2. simp (t, t2)))
+choice_tried c bytes stop rest None = refl
 
 module _ (page env temp perm bytes : List ℕ) (from at end : ℕ) (inv : choose (view page env temp perm) bytes (tlvs 0 page at end) ≡ choose (view page env temp perm) bytes (tlvs 0 page from end)) where
   abbrev whole : Choice
@@ -144,48 +125,48 @@ module _ (page env temp perm bytes : List ℕ) (from at end : ℕ) (inv : choose
   unfolding choose
   choose_done h = sym (simp (row_done page at end h)) ∙ inv
 
-  module _ (h : at < end) (p : Head) (is : p ≡ head_at page at end) where
-    pub choose_past : p ≡ Past → Stay ≡ whole
+  module _ (h : at < end) (p : Option Tlv) (is : p ≡ head_at page at end) where
+    pub choose_past : p ≡ None → Stay ≡ whole
     unfolding choose
     choose_past x = sym (simp (row_past page at end h (was is x))) ∙ inv
 
-    module _ (tag start stop : ℕ) (x : p ≡ Tlv tag start stop) where
-      pub choose_last : tag ≡ 0x12 → (k : Head) → k ≡ head_at page start stop → (d : Choice) → d ≡ follow k → d ≡ whole
+    module _ (v : Tlv) (x : p ≡ Some v) where
+      pub choose_last : v.tag ≡ 0x12 → (k : Option Tlv) → k ≡ head_at page v.start v.stop → (d : Choice) → d ≡ follow k → d ≡ whole
       unfolding choose view seen
       choose_last y k f d e = e ∙ (sym (simp (row_tlv page at end h (was is x), eq-eqb _ _ y, ← f)) ∙ inv)
 
-      module _ (y : tag ≡ 0x12 → ⊥) (t : Tried) (e : t ≡ tried (view page env temp perm) bytes stop (head_at page start stop)) where
-        opens : or_rest (choose (view page env temp perm) bytes (tlvs 0 page stop end)) t ≡ whole
+      module _ (y : v.tag ≡ 0x12 → ⊥) (t : Option Choice) (e : t ≡ tried (view page env temp perm) bytes v.stop (head_at page v.start v.stop)) where
+        opens : or_rest (choose (view page env temp perm) bytes (tlvs 0 page v.stop end)) t ≡ whole
         unfolding choose view seen
-        opens = rw e (sym (choice_tried (view page env temp perm) bytes stop _ (head_at page start stop)) ∙ (simp (row_tlv page at end h (was is x), ne_eqb _ _ y) at inv))
+        opens = rw e (sym (choice_tried (view page env temp perm) bytes v.stop _ (head_at page v.start v.stop)) ∙ (simp (row_tlv page at end h (was is x), ne_eqb _ _ y) at inv))
 
-        pub choose_passed : t ≡ Passed → choose (view page env temp perm) bytes (tlvs 0 page stop end) ≡ whole
+        pub choose_passed : t ≡ None → choose (view page env temp perm) bytes (tlvs 0 page v.stop end) ≡ whole
         unfolding or_rest
         choose_passed z = rw z at opens
 
-        pub choose_settled : (d : Choice) → t ≡ Settled d → d ≡ whole
+        pub choose_settled : (d : Choice) → t ≡ Some d → d ≡ whole
         unfolding or_rest
         choose_settled d z = rw z at opens
 
 pub ruleset choose_laws = (choose_done, choose_past, choose_last, choose_passed, choose_settled)
 
 module _ (c : Choice) where
-  pub branch_towards : (start stop : ℕ) → c ≡ Follow start stop → Towards start stop ≡ branch_for c
+  pub branch_towards : (start stop : ℕ) → c ≡ Follow start stop → towards start stop ≡ branch_for c
   unfolding branch_for
   branch_towards start stop e = simp e
 
-  pub branch_onwards : c ≡ Stay → Onwards ≡ branch_for c
+  pub branch_onwards : c ≡ Stay → (Ok None) ≡ branch_for c
   unfolding branch_for
   branch_onwards e = simp e
 
-  pub branch_unknown : c ≡ Unknown → Refused Variable ≡ branch_for c
+  pub branch_unknown : c ≡ Unknown → Err Variable ≡ branch_for c
   unfolding branch_for
   branch_unknown e = simp e
 
 pub ruleset branch_laws = (branch_towards, branch_onwards, branch_unknown)
 
 -- a variable that is undefined is refused after what is worse
-undefined_last : (u cs : Complaint) (b : Branch) → refused_by (worse u cs) (Refused Variable) ≡ refused_by (worse (worse u Undefined) cs) b
+undefined_last : (u cs : Complaint) (b : Result (Option Span) Refusal) → refused_by (worse u cs) (Err Variable) ≡ refused_by (worse (worse u Undefined) cs) b
 unfolding refused_by worse rank
 undefined_last Nothing Nothing b = refl
 undefined_last Nothing Undefined b = refl
@@ -209,6 +190,21 @@ unfolding branch_slot undefined_in value_bytes
 by_slot c row u cs free = undefined_last u cs _
 by_slot c row u cs (held type bytes) = rw (nothing_worse u)
 
+-- a complaint that comes to a refusal, and one that comes to none
+unrefused : (w : Complaint) (b : Result (Option Span) Refusal) → refusal_of w ≡ None → refused_by w b ≡ b
+unfolding refused_by refusal_of
+unrefused Nothing b e = refl
+unrefused Undefined b e = let z : ◌≡◌ {A = Option Refusal} (Some Variable) None = e in cc
+unrefused Secured b e = let z : ◌≡◌ {A = Option Refusal} (Some Security) None = e in cc
+unrefused Misused b e = let z : ◌≡◌ {A = Option Refusal} (Some Syntax) None = e in cc
+
+refused : (w : Complaint) (r : Refusal) (b : Result (Option Span) Refusal) → refusal_of w ≡ Some r → refused_by w b ≡ Err r
+unfolding refused_by refusal_of
+refused Nothing r b e = let z : ◌≡◌ {A = Option Refusal} None (Some r) = e in cc
+refused Undefined r b e = let z : ◌≡◌ {A = Option Refusal} (Some Variable) (Some r) = e in cc
+refused Secured r b e = let z : ◌≡◌ {A = Option Refusal} (Some Security) (Some r) = e in cc
+refused Misused r b e = let z : ◌≡◌ {A = Option Refusal} (Some Syntax) (Some r) = e in cc
+
 module _ (page env temp perm : List ℕ) (start stop n : ℕ) (f : n ≡ get_or page start 0) where
   abbrev d : Card
   d = view page env temp perm
@@ -221,20 +217,11 @@ module _ (page env temp perm : List ℕ) (start stop n : ℕ) (f : n ≡ get_or 
     told : branch_choice d start stop ≡ refused_by w (branch_for (choose d (value_bytes (read d n)) (tlvs 0 page (start + 1) stop)))
     told = rw (is, e, g) by_reading
 
-    pub branch_free : w ≡ Nothing → (v : List ℕ) → v ≡ value_bytes (read d n) → (k : Choice) → k ≡ choose d v (tlvs 0 page (start + 1) stop) → (b : Branch) → b ≡ branch_for k → b ≡ branch_choice d start stop
-    unfolding refused_by
-    branch_free x v i k j b l = l ∙ rw (j, i) (sym (rw x at told))
+    module _ (o : Option Refusal) (by : o ≡ refusal_of w) where
+      pub branch_free : o ≡ None → (v : List ℕ) → v ≡ value_bytes (read d n) → (k : Choice) → k ≡ choose d v (tlvs 0 page (start + 1) stop) → (b : Result (Option Span) Refusal) → b ≡ branch_for k → b ≡ branch_choice d start stop
+      branch_free x v i k j b l = l ∙ rw (j, i) (sym (told ∙ unrefused w _ (sym by ∙ x)))
 
-    pub branch_undefined : w ≡ Undefined → Refused Variable ≡ branch_choice d start stop
-    unfolding refused_by
-    branch_undefined x = sym (rw x at told)
+      pub branch_refused : (r : Refusal) → o ≡ Some r → Err r ≡ branch_choice d start stop
+      branch_refused r x = sym (told ∙ refused w r _ (sym by ∙ x))
 
-    pub branch_secured : w ≡ Secured → Refused Security ≡ branch_choice d start stop
-    unfolding refused_by
-    branch_secured x = sym (rw x at told)
-
-    pub branch_misused : w ≡ Misused → Refused Syntax ≡ branch_choice d start stop
-    unfolding refused_by
-    branch_misused x = sym (rw x at told)
-
-pub ruleset choice_laws = (branch_free, branch_undefined, branch_secured, branch_misused)
+pub ruleset choice_laws = (branch_free, branch_refused)

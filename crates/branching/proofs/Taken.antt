@@ -4,8 +4,6 @@ use Prim.Native.Nat.{ℕ, ◌+◌}
 use mathlib.Core.List.{List, []}
 use mathlib.Core.Path.{◌≡◌, refl}
 use lib.ListN.{get_or}
-use Rattle.rules.specs.declared.Head.{Head}
-use Rattle.rules.specs.declared.Head.TheVariants.{Tlv, Past}
 use Rattle.rules.specs.declared.Choice.{Choice}
 use Rattle.rules.specs.declared.Choice.TheVariants.{Follow, Stay, Unknown}
 use Rattle.rules.specs.declared.Complaint.{Complaint}
@@ -19,14 +17,17 @@ use Rattle.rules.specs.Step.{Plan, unless, case_value, cases_complaint, case_cho
 use Rattle.variable.specs.View.{seen, bare}
 use Rattle.variable.proofs.Bare.{bare_read}
 use Rattle.value.proofs.Bare.{bare_complaint, bare_joined}
-use Rattle.branching.specs.declared.Branch.{Branch}
 use Rattle.branching.specs.Branch.{refused_by, branch_for, branch_slot, branch_choice, taken_on}
+use Rattle.std.specs.Prelude.{Option, Some, None, Result}
+use Rattle.rules.specs.declared.Tlv.{Tlv}
+use Rattle.rules.specs.declared.Span.{Span}
+use Rattle.rules.specs.declared.Refusal.{Refusal}
 
-bare_choice : (c : Card) (bytes : List ℕ) (stop : ℕ) (rest : Choice) (h : Head) → case_choice (bare c) bytes stop rest h ≡ case_choice c bytes stop rest h
+bare_choice : (c : Card) (bytes : List ℕ) (stop : ℕ) (rest : Choice) (h : Option Tlv) → case_choice (bare c) bytes stop rest h ≡ case_choice c bytes stop rest h
 unfolding case_choice bare seen
-bare_choice c bytes stop rest (Tlv tag from to) =
-    rw (bare_complaint c [] (case_value c.run.page tag from to), bare_joined c (case_value c.run.page tag from to))
-bare_choice c bytes stop rest Past = refl
+bare_choice c bytes stop rest (Some h) =
+    rw (bare_complaint c [] (case_value c.run.page h.tag h.start h.stop), bare_joined c (case_value c.run.page h.tag h.start h.stop))
+bare_choice c bytes stop rest None = refl
 
 pub bare_choose : (c : Card) (bytes : List ℕ) (row : Tlvs) → choose (bare c) bytes row ≡ choose c bytes row
 unfolding choose bare seen
@@ -45,7 +46,7 @@ unfolding branch_on_slot branch_slot taken_on
 slot_taken c next row free = refl
 slot_taken c next row (held type bytes) = rw (bare_choose c bytes row) (chosen_taken c next (choose c bytes row))
 
-unless_taken : (c : Card) (next : ℕ) (w : Complaint) (p : Plan) (b : Branch) → p ≡ taken_on c next b → unless w p ≡ taken_on c next (refused_by w b)
+unless_taken : (c : Card) (next : ℕ) (w : Complaint) (p : Plan) (b : Result (Option Span) Refusal) → p ≡ taken_on c next b → unless w p ≡ taken_on c next (refused_by w b)
 unfolding unless refused_by taken_on
 unless_taken c next Nothing p b e = e
 unless_taken c next Undefined p b e = refl

@@ -9,27 +9,14 @@ ghost use Rattle.rules.specs.Pieces.{pieces};
 ghost use Rattle.rules.specs.Page.{service};
 ghost use Rattle.rules.specs.Value.{complaint, joined};
 ghost use Rattle.rules.specs.Step.{case_value, secured_in, case_complaint, cases_complaint, follow, follow_in, is_undefined, choose};
-ghost use Rattle.variable.specs.View.{view};
+ghost use Rattle.variable.specs.View.{viewed};
 ghost use Rattle.branching.specs.Branch.{tried, branch_for, branch_choice};
 
-use rules::{Choice, Complaint, Head, Pair, Refusal};
-
-// What a case comes to: it does not match, or it settles the branch.
-#[derive(Clone, Copy)]
-pub enum Tried {
-    Passed,
-    Settled(Choice),
-}
-
-// What the byte code comes to before its reference is resolved: a refusal, no branch, or the reference that stands from a place up to another.
-#[derive(Clone, Copy)]
-pub enum Branch {
-    Refused(Refusal),
-    Onwards,
-    Towards(usize, usize),
-}
+use rules::{Choice, Complaint, Pair, Refusal, Span, Tlv};
+use variable::View;
 
 // The variables of an Inline Value that the page may not touch.
+#[tactic(auto, using(crate::proofs::SecuredLaws::secured_laws, tlv::proofs::Bounds::shorter_laws))]
 fn secured_in(page: &[u8], from: usize, end: usize) -> Complaint
     requires { end ≤ length page.now }
     ensures { result ≡ secured_in (service page.now) (pieces true page.now from end) }
@@ -37,42 +24,38 @@ fn secured_in(page: &[u8], from: usize, end: usize) -> Complaint
     let mut at = from;
     let mut worst = Complaint::Nothing;
     while at < end {
-        let pair = tlv::pair_at(true, page, at, end);
-        match pair {
-            Pair::Text(_, to) => {
-                at = to;
-            }
+        match tlv::pair_at(true, page, at, end) {
+            Pair::Text(_, next) => at = next,
             Pair::Number(n, next) => {
-                let one = variable::unserved(page, n);
-                worst = variable::worse(worst, one);
+                worst = variable::worse(worst, variable::unserved(page, n));
                 at = next;
             }
-            Pair::Broken => {
-                return worst;
-            }
+            Pair::Broken => return worst,
         }
     }
     worst
 }
 
 // What is wrong with the value that a case starts with.
+#[tactic(auto, using(crate::proofs::SecuredLaws::case_laws, tlv::proofs::Bounds::next_laws))]
 fn case_complaint(page: &[u8], at: usize, end: usize) -> Complaint
     requires { end ≤ length page.now }
     ensures { result ≡ case_complaint page.now (head_at page.now at end) }
 {
-    let Head::Tlv(tag, start, stop) = tlv::head_at(page, at, end) else {
+    let Some(tlv) = tlv::head_at(page, at, end) else {
         return Complaint::Nothing;
     };
-    if tag == 0x0D {
-        if start < stop {
-            return variable::unserved(page, page[start]);
+    if tlv.tag == 0x0D {
+        if tlv.start < tlv.stop {
+            return variable::unserved(page, page[tlv.start]);
         }
         return Complaint::Misused;
     }
-    secured_in(page, tlv::content_at(page, tag, start, stop), stop)
+    secured_in(page, tlv::content_at(page, tlv), tlv.stop)
 }
 
 // What is wrong with the cases from a place up to an end, those behind a match too.
+#[tactic(auto, using(crate::proofs::SecuredLaws::cases_laws, tlv::proofs::Bounds::next_laws))]
 pub fn cases_complaint(page: &[u8], from: usize, end: usize) -> Complaint
     requires { end ≤ length page.now }
     ensures { result ≡ cases_complaint page.now (tlvs 0 page.now from end) }
@@ -80,191 +63,143 @@ pub fn cases_complaint(page: &[u8], from: usize, end: usize) -> Complaint
     let mut at = from;
     let mut worst = Complaint::Nothing;
     while at < end {
-        let Head::Tlv(tag, start, stop) = tlv::head_at(page, at, end) else {
+        let Some(tlv) = tlv::head_at(page, at, end) else {
             return worst;
         };
-        if tag == 0x11 {
-            let found = case_complaint(page, start, stop);
+        if tlv.tag == 0x11 {
+            let found = case_complaint(page, tlv.start, tlv.stop);
             worst = variable::worse(worst, found);
         }
-        at = stop;
+        at = tlv.stop;
     }
     worst
 }
 
 // The anchor reference that a TLV is.
-fn follow(h: Head) -> Choice
+#[tactic(auto, using(crate::proofs::ChooseLaws::follow_laws))]
+fn follow(h: Option<Tlv>) -> Choice
     ensures { result ≡ follow h }
 {
-    let Head::Tlv(_, start, stop) = h else {
-        return Choice::Stay;
-    };
-    Choice::Follow(start, stop)
+    match h {
+        Some(tlv) => Choice::Follow(tlv.start, tlv.stop),
+        None => Choice::Stay,
+    }
 }
 
 // The anchor reference in the page reference at a place (clause 7.9).
+#[tactic(auto, using(crate::proofs::ChooseLaws::follow_laws, tlv::proofs::Bounds::next_laws))]
 fn follow_in(page: &[u8], at: usize, end: usize) -> Choice
     requires { end ≤ length page.now }
     ensures { result ≡ follow_in page.now (head_at page.now at end) }
 {
-    let Head::Tlv(_, start, stop) = tlv::head_at(page, at, end) else {
-        return Choice::Stay;
-    };
-    follow(tlv::head_at(page, start, stop))
+    match tlv::head_at(page, at, end) {
+        Some(tlv) => follow(tlv::head_at(page, tlv.start, tlv.stop)),
+        None => Choice::Stay,
+    }
 }
 
+#[tactic(auto, unfolding(rules::specs::Step::is_undefined))]
 fn is_undefined(c: Complaint) -> bool
     ensures { result ≡ is_undefined c }
 {
-    match c {
-        Complaint::Nothing => false,
-        Complaint::Undefined => true,
-        Complaint::Secured => false,
-        Complaint::Misused => false,
-    }
+    matches!(c, Complaint::Undefined)
 }
 
 // The worst complaint about the variables of a case's value: of a list only the first number counts.
-fn value_complaint<'a>(
-    page: &'a [u8],
-    env: &'a [u8; 16640],
-    temp: &'a [u8; 16640],
-    perm: &'a [u8; 17920],
-    tag: u8,
-    from: usize,
-    to: usize,
-) -> Complaint
-    requires { to ≤ length page.now }
-    ensures { result ≡ complaint (view page.now env.now temp.now perm.now) [] (case_value page.now tag from to) }
+#[tactic(auto, using(crate::proofs::ChooseLaws::value_laws))]
+fn value_complaint(view: View, tlv: Tlv) -> Complaint
+    requires { tlv.stop ≤ length view.page.now }
+    ensures { result ≡ complaint (viewed view.entry) [] (case_value view.entry.page.now tlv.tag tlv.start tlv.stop) }
 {
-    if tag == 0x0D {
-        return variable::reading(page, env, temp, perm, slice::byte_at(page, from));
+    if tlv.tag == 0x0D {
+        return variable::reading(view, slice::byte_at(view.page, tlv.start));
     }
-    value::complaint_of(page, env, temp, perm, &page[0..0], tag, from, to)
+    value::complaint_of(view, &view.page[0..0], tlv)
 }
 
 // A case's value equals bytes in length and bytes.
-fn value_is<'a>(
-    page: &'a [u8],
-    env: &'a [u8; 16640],
-    temp: &'a [u8; 16640],
-    perm: &'a [u8; 17920],
-    tag: u8,
-    from: usize,
-    to: usize,
-    bytes: &'a [u8],
-) -> bool
-    requires { to ≤ length page.now }
-    ensures { result ≡ same (joined (view page.now env.now temp.now perm.now) (case_value page.now tag from to)) bytes.now }
+#[tactic(auto, using(crate::proofs::ChooseLaws::value_laws))]
+fn value_is(view: View, tlv: Tlv, bytes: &[u8]) -> bool
+    requires { tlv.stop ≤ length view.page.now }
+    ensures { result ≡ same (joined (viewed view.entry) (case_value view.entry.page.now tlv.tag tlv.start tlv.stop)) bytes.now }
 {
-    if tag == 0x0D {
-        let value = variable::value_of(page, env, temp, perm, slice::byte_at(page, from));
+    if tlv.tag == 0x0D {
+        let value = variable::value_of(view, slice::byte_at(view.page, tlv.start));
         return leaf::same_bytes(value, bytes);
     }
-    let content = tlv::content_at(page, tag, from, to);
-    equal::is_value(page, env, temp, perm, false, content, to, bytes)
+    let content = tlv::content_at(view.page, tlv);
+    equal::is_value(view, false, content, tlv.stop, bytes)
 }
 
 // What the case from a place up to its end comes to; its page reference stands last.
-fn try_case<'a>(
-    page: &'a [u8],
-    env: &'a [u8; 16640],
-    temp: &'a [u8; 16640],
-    perm: &'a [u8; 17920],
-    bytes: &'a [u8],
-    at: usize,
-    stop: usize,
-) -> Tried
-    requires { stop ≤ length page.now }
-    ensures { result ≡ tried (view page.now env.now temp.now perm.now) bytes.now stop (head_at page.now at stop) }
+#[tactic(auto, using(tlv::proofs::Bounds::next_laws, crate::proofs::ChooseLaws::tried_laws))]
+fn try_case(view: View, bytes: &[u8], at: usize, stop: usize) -> Option<Choice>
+    requires { stop ≤ length view.page.now }
+    ensures { result ≡ tried (viewed view.entry) bytes.now stop (head_at view.entry.page.now at stop) }
 {
-    let Head::Tlv(tag, from, to) = tlv::head_at(page, at, stop) else {
-        return Tried::Passed;
+    let Some(tlv) = tlv::head_at(view.page, at, stop) else {
+        return None;
     };
-    if is_undefined(value_complaint(page, env, temp, perm, tag, from, to)) {
-        return Tried::Settled(Choice::Unknown);
+    if is_undefined(value_complaint(view, tlv)) {
+        return Some(Choice::Unknown);
     }
-    if value_is(page, env, temp, perm, tag, from, to, bytes) {
-        return Tried::Settled(follow_in(page, to, stop));
+    if value_is(view, tlv, bytes) {
+        return Some(follow_in(view.page, tlv.stop, stop));
     }
-    Tried::Passed
+    None
 }
 
 // The first case that matches, or the page reference behind the cases, or no branch.
-pub fn choose<'a>(
-    page: &'a [u8],
-    env: &'a [u8; 16640],
-    temp: &'a [u8; 16640],
-    perm: &'a [u8; 17920],
-    bytes: &'a [u8],
-    from: usize,
-    end: usize,
-) -> Choice
-    requires { end ≤ length page.now }
-    ensures { result ≡ choose (view page.now env.now temp.now perm.now) bytes.now (tlvs 0 page.now from end) }
+#[tactic(auto, using(crate::proofs::ChooseLaws::choose_laws, tlv::proofs::Bounds::next_laws))]
+pub fn choose(view: View, bytes: &[u8], from: usize, end: usize) -> Choice
+    requires { end ≤ length view.page.now }
+    ensures { result ≡ choose (viewed view.entry) bytes.now (tlvs 0 view.entry.page.now from end) }
 {
     let mut at = from;
     while at < end {
-        let Head::Tlv(tag, start, stop) = tlv::head_at(page, at, end) else {
+        let Some(tlv) = tlv::head_at(view.page, at, end) else {
             return Choice::Stay;
         };
-        if tag == 0x12 {
-            return follow(tlv::head_at(page, start, stop));
+        if tlv.tag == 0x12 {
+            return follow(tlv::head_at(view.page, tlv.start, tlv.stop));
         }
-        let one = try_case(page, env, temp, perm, bytes, start, stop);
-        match one {
-            Tried::Passed => {
-                at = stop;
-            }
-            Tried::Settled(choice) => {
-                return choice;
-            }
+        if let Some(choice) = try_case(view, bytes, tlv.start, tlv.stop) {
+            return choice;
         }
+        at = tlv.stop;
     }
     Choice::Stay
 }
 
 // A variable of a case that is undefined refuses the byte code.
-fn branch_for(c: Choice) -> Branch
+#[tactic(auto, using(crate::proofs::ChooseLaws::branch_laws))]
+fn branch_for(c: Choice) -> Result<Option<Span>, Refusal>
     ensures { result ≡ branch_for c }
 {
     match c {
-        Choice::Follow(start, stop) => Branch::Towards(start, stop),
-        Choice::Stay => Branch::Onwards,
-        Choice::Unknown => Branch::Refused(Refusal::Variable),
+        Choice::Follow(start, stop) => Ok(Some(Span {
+            from: start,
+            end: stop,
+        })),
+        Choice::Stay => Ok(None),
+        Choice::Unknown => Err(Refusal::Variable),
     }
 }
 
 // What the byte code whose value stands from a place up to another comes to.
-pub fn branch_choice<'a>(
-    page: &'a [u8],
-    env: &'a [u8; 16640],
-    temp: &'a [u8; 16640],
-    perm: &'a [u8; 17920],
-    start: usize,
-    stop: usize,
-) -> Branch
-    requires { (start ≤ stop) × (stop ≤ length page.now) }
-    ensures { result ≡ branch_choice (view page.now env.now temp.now perm.now) start stop }
+#[tactic(auto, using(crate::proofs::ChooseLaws::choice_laws))]
+pub fn branch_choice(view: View, start: usize, stop: usize) -> Result<Option<Span>, Refusal>
+    requires { (start ≤ stop) × (stop ≤ length view.page.now) }
+    ensures { result ≡ branch_choice (viewed view.entry) start stop }
 {
-    let n = slice::byte_at(page, start);
+    let n = slice::byte_at(view.page, start);
     let from = start + 1;
     let worst = variable::worse(
-        variable::reading(page, env, temp, perm, n),
-        cases_complaint(page, from, stop),
+        variable::reading(view, n),
+        cases_complaint(view.page, from, stop),
     );
-    match worst {
-        Complaint::Nothing => branch_for(choose(
-            page,
-            env,
-            temp,
-            perm,
-            variable::value_of(page, env, temp, perm, n),
-            from,
-            stop,
-        )),
-        Complaint::Undefined => Branch::Refused(Refusal::Variable),
-        Complaint::Secured => Branch::Refused(Refusal::Security),
-        Complaint::Misused => Branch::Refused(Refusal::Syntax),
+    match variable::refusal_of(worst) {
+        Some(why) => Err(why),
+        None => branch_for(choose(view, variable::value_of(view, n), from, stop)),
     }
 }

@@ -31,6 +31,7 @@ fn pair_at(s: &[u8], at: usize) -> usize
 }
 
 // Every byte becomes that of s, from a place on.
+#[tactic(auto, unfolding(rules::specs::Bytes::part))]
 fn fetch(dst: &mut [u8], s: &[u8], at: usize)
     requires { at + length dst.old ≤ length s.now }
     ensures { dst.new ≡ part s.now at (at + length dst.old) }
@@ -64,20 +65,21 @@ pub fn decode(s: &[u8]) -> State
     let unit = pair_at(s, 56697);
     let place = pair_at(s, 56699);
     State {
-        page: page,
-        len: len,
-        environment: environment,
-        temporary: temporary,
-        permanent: permanent,
-        trail: trail,
-        guard: guard,
-        hand: hand,
-        wanted: wanted,
-        unit: unit,
-        place: place,
+        page,
+        len,
+        environment,
+        temporary,
+        permanent,
+        trail,
+        guard,
+        hand,
+        wanted,
+        unit,
+        place,
     }
 }
 
+#[tactic(auto, unfolding(rules::specs::Bytes::hex, rules::specs::Bytes::hex_to))]
 fn put_pair(s: &mut [u8], at: usize, number: usize)
     requires { at + 2 ≤ length s.old }
     ensures { s.new ≡ poured s.old at (hex 2 number) }

@@ -1,11 +1,9 @@
--- Bytes poured one after another are poured together; and the ways through `header_size` and `header`.
+-- Bytes poured one after another are poured together; and what `header` pours.
 -- Assumes nothing.
-use Prim.Native.Nat.{ℕ, ◌+◌, ◌-◌, ◌≤◌}
+use Prim.Native.Nat.{ℕ, ◌+◌, ◌≤◌}
 use mathlib.Core.List.{List, [], ◌∷◌, ◌++◌, append_assoc}
 use mathlib.Core.Path.{◌≡◌, sym, ap, ◌∙◌}
 use native.Mathlib.Omega.{arith}
-use mir.Syntax.{w64}
-use mir.Val.{Fits}
 use lib.ListN.{length, take, drop, length-append, take-append-drop}
 use lib.Seq.{length-take-le, take_at, drop_at, drop-drop}
 use Rattle.rules.specs.Value.{shortest}
@@ -13,7 +11,7 @@ use Rattle.pour.specs.Pour.{poured}
 use Rattle.pour.proofs.PourLaws.{length_poured}
 use Rattle.ber.specs.declared.Form.{Form}
 use Rattle.ber.specs.Form.{form_of}
-use Rattle.ber.proofs.FormLaws.{form_length, form_fits, form_part, form_bytes_length, shortest_size}
+use Rattle.ber.proofs.FormLaws.{form_front, shortest_size}
 
 pub poured_none : (a : List ℕ) (at : ℕ) → poured a at [] ≡ a
 unfolding poured
@@ -42,31 +40,18 @@ module _ (out₀ out all rest v : List ℕ) (place n : ℕ) (inv : poured out n 
     pub rest_room : m + length rest ≤ length d
     rest_room = let q = ap length e ∙ length_poured out n v one_room in omega (arith, long)
 
-pub size_is : (n : ℕ) (f : Form) → f ≡ form_of n → 1 + f.length ≡ 1 + length (shortest n)
-size_is n f is = let l = form_length n f is in omega arith
-
-pub size_small : (n : ℕ) (f : Form) → f ≡ form_of n → 1 + f.length ≤ 5
-size_small n f is = let l = form_fits n f is in omega arith
-
-pub size_fits : (n : ℕ) (f : Form) → f ≡ form_of n → Fits w64 (1 + f.length)
-size_fits n f is = let l = form_fits n f is in omega arith
-
-pub ruleset size_laws = (size_is, size_small, size_fits)
-
+-- what the second call of `header` pours, and where
 module _ (out d : List ℕ) (place tag n : ℕ) (fits : place + 1 + length (shortest n) ≤ length out) (e : d ≡ poured out place (tag ∷ [])) (m : ℕ) (g : m ≡ place + 1) (f : Form) (is : f ≡ form_of n) where
-  pub header_end : f.length ≤ length f.bytes
-  header_end = let l = form_fits n f is in let k = form_bytes_length n f is in omega arith
+  pub header_room : m + length (take f.length f.bytes) ≤ length d
+  header_room = let q = ap length e ∙ length_poured out place (tag ∷ []) (omega arith) in rw (form_front n f is) (omega arith)
 
-  pub header_room : m + length (take (f.length - 0) (drop 0 f.bytes)) ≤ length d
-  header_room = let q = ap length e ∙ length_poured out place (tag ∷ []) (omega arith) in rw (form_part n f is) (omega arith)
+  pub header_next : (r : ℕ) → r ≡ m + length (take f.length f.bytes) → r ≡ place + length (tag ∷ shortest n)
+  header_next r h = let q : r ≡ m + length (shortest n) = rw (form_front n f is) at h in omega arith
 
-  pub header_next : (r : ℕ) → r ≡ m + length (take (f.length - 0) (drop 0 f.bytes)) → r ≡ place + length (tag ∷ shortest n)
-  header_next r h = let q : r ≡ m + length (shortest n) = rw (form_part n f is) at h in omega arith
+  pub header_near : (r : ℕ) → r ≡ m + length (take f.length f.bytes) → r ≤ place + 5
+  header_near r h = let q : r ≡ m + length (shortest n) = rw (form_front n f is) at h in let l = shortest_size n in omega arith
 
-  pub header_near : (r : ℕ) → r ≡ m + length (take (f.length - 0) (drop 0 f.bytes)) → r ≤ place + 5
-  header_near r h = let q : r ≡ m + length (shortest n) = rw (form_part n f is) at h in let l = shortest_size n in omega arith
+  pub header_is : (z : List ℕ) → z ≡ poured d m (take f.length f.bytes) → z ≡ poured out place (tag ∷ shortest n)
+  header_is z h = h ∙ rw (form_front n f is, e, g) (poured_more out place (tag ∷ []) (shortest n) (omega arith))
 
-  pub header_is : (z : List ℕ) → z ≡ poured d m (take (f.length - 0) (drop 0 f.bytes)) → z ≡ poured out place (tag ∷ shortest n)
-  header_is z h = h ∙ rw (form_part n f is, e, g) (poured_more out place (tag ∷ []) (shortest n) (omega arith))
-
-pub ruleset header_laws = (header_end, header_room, header_next, header_near, header_is)
+pub ruleset header_laws = (header_room, header_next, header_near, header_is)

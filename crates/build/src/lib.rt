@@ -15,22 +15,20 @@ pub fn append(out: &mut [u8], place: usize, bytes: &[u8]) -> usize
 }
 
 // The size of a tag and a length in the shortest form.
+#[tactic(auto, using(ber::proofs::FormLaws::shortest_size), unfolding(ber::specs::Form::form_of))]
 pub fn header_size(n: usize) -> usize
     ensures { (result ≡ 1 + length (shortest n)) × (result ≤ 5) }
 {
-    let form = ber::shortest(n);
-    1 + form.length
+    1 + ber::shortest(n).length
 }
 
 // A tag and a length in the shortest form, from a place on.
+#[tactic(auto, using(ber::proofs::FormLaws::shortest_size), unfolding(ber::specs::Form::form_of))]
 pub fn header(out: &mut [u8], place: usize, tag: u8, n: usize) -> usize
     requires { place + 1 + length (shortest n) ≤ length out.old }
     ensures { (result ≡ place + length (tag ∷ shortest n)) × (result ≤ place + 5) × (out.new ≡ poured out.old place (tag ∷ shortest n)) }
 {
-    let one = [tag];
-    let next = append(out, place, &one);
+    let next = append(out, place, &[tag]);
     let form = ber::shortest(n);
-    let bytes = form.bytes;
-    let size = form.length;
-    append(out, next, &bytes[0..size])
+    append(out, next, &form.bytes[..form.length])
 }

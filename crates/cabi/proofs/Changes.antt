@@ -15,14 +15,14 @@ use Rattle.rules.specs.Store.{longest}
 use Rattle.rules.specs.Card.{Card, runs}
 use Rattle.rules.specs.IsCard.{is_card}
 use Rattle.rules.specs.Calls.{Asked, create, set_environment, load, step, run_up_to, respond, end, read_variable, Answer, answer_number, Did, admitted, lends, ready, waiting, load_by, load_refused, step_refused, run_refused, respond_refused, told_refused, environment_done, hidden, read_done, act}
-use Rattle.rules.specs.declared.Judged.{Judged}
-use Rattle.rules.specs.declared.Judged.TheVariants.{Accepted, Rejected}
 use Rattle.rules.specs.declared.Refusal.{Refusal}
 use Rattle.rules.specs.declared.Refusal.TheVariants.{Buffer, State as NoCard}
 use Rattle.rules.proofs.Choices.{either}
 use Rattle.rules.proofs.Refusals.{kept_as_it_was}
 use Rattle.packing.specs.Packed.{kind_of, size_of, high_of, packed}
 use Rattle.cabi.specs.Serves.{finds}
+use Rattle.std.specs.Prelude.{Result, Ok, Err}
+use Rattle.rules.specs.declared.Rejection.{Rejection}
 
 kept_number : (n : ℕ) → 32 ≤ n → leaves n ≡ kept
 unfolding leaves among
@@ -55,10 +55,10 @@ module _ (c : Card) where
       (λ _. either Keeps (eqb n 5) (λ _ h. refl)
       (λ _. either Keeps (ltb longest (length value)) (λ _ h. refl) (λ _ h. absurd (h refl)))))
 
-  judged_keeps : (s : List ℕ) (j : Judged) → Keeps (load_by s c j)
+  judged_keeps : (s : List ℕ) (j : Result (Unit {0}) Rejection) → Keeps (load_by s c j)
   unfolding load_by packed answer_number loaded_number offset kind_of size_of high_of
-  judged_keeps s Accepted h = absurd (h refl)
-  judged_keeps s (Rejected class at) h = refl
+  judged_keeps s (Ok u) h = absurd (h refl)
+  judged_keeps s (Err e) h = refl
 
   pub load_keeps : (s : List ℕ) → (packed (act (load s) c).answer ≡ 0 → ⊥) → (act (load s) c).card ≡ c
   unfolding act load_refused

@@ -10,7 +10,6 @@ use Rattle.rules.specs.Card.{Slot, free, held, Card}
 use Rattle.rules.specs.Store.{longest, area}
 use Rattle.rules.specs.IsCard.{is_card}
 use Rattle.rules.specs.Calls.{load, step, run_up_to, respond, read_variable, Answer, told, loaded, taken, ran, responded, shown, padded, hidden, display, seen, read_done, act}
-use Rattle.rules.specs.declared.Loaded.{Loaded}
 use Rattle.rules.specs.declared.Refusal.TheVariants.{State as NoCard}
 use Rattle.rules.specs.declared.Outcome.{Outcome}
 use Rattle.rules.specs.declared.Stepped.{Stepped}
@@ -22,9 +21,11 @@ use Rattle.machine.specs.declared.Machine.{Machine}
 use Rattle.machine.specs.Meets.{Meets}
 use Rattle.packing.specs.Packed.{command_length}
 use Rattle.cabi.proofs.Sent.{Fits, load_fits, step_fits, run_fits, respond_fits, CountedTo, run_counts}
+use Rattle.std.specs.Prelude.{Result}
+use Rattle.rules.specs.declared.LoadError.{LoadError}
 
 module _ (x m : Machine) where
-  pub load_packs : (page : List ℕ) (l : Loaded) → Meets (load page) x (loaded l) m → offset l < 65536
+  pub load_packs : (page : List ℕ) (l : Result (Unit {0}) LoadError) → Meets (load page) x (loaded l) m → offset l < 65536
   load_packs page l met = subst Fits (sym met.answered) (load_fits (card_of x.state) page)
 
   module _ (before after ref : List ℕ) where

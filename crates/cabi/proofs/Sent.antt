@@ -14,21 +14,20 @@ use Rattle.rules.specs.Command.{reply}
 use Rattle.rules.specs.Step.{Move, onwards, jump, away, back, send, finish, Plan, refuses, does, runs_out, Effect, sending, wanting, back_to, go_back, moved, applied, decide, stepped, here, answer_for, answered}
 use Rattle.rules.specs.IsCard.{is_card}
 use Rattle.rules.specs.Calls.{load, step, run_up_to, respond, Answer, told, loaded, taken, ran, responded, shown, Did, Counted, steps, goes_on, admitted, lends, ready, waiting, load_by, load_refused, step_done, step_refused, run_done, run_refused, respond_done, respond_refused, respond_by, act}
-use Rattle.rules.specs.declared.Head.{Head}
 use Rattle.rules.specs.declared.Target.{Target}
 use Rattle.rules.specs.declared.Target.TheVariants.{Unit as Own, Lacking, Other}
-use Rattle.rules.specs.declared.Judged.{Judged}
-use Rattle.rules.specs.declared.Judged.TheVariants.{Accepted, Rejected}
 use Rattle.rules.specs.declared.Refusal.{Refusal}
 use Rattle.rules.specs.declared.Refusal.TheVariants.{Buffer, Call, State as NoCard}
-use Rattle.rules.specs.declared.Reply.{Reply}
-use Rattle.rules.specs.declared.Reply.TheVariants.{Result, Malformed}
 use Rattle.rules.proofs.Choices.{either}
 use Rattle.rules.proofs.Runs.{run_is_its_steps}
 use Rattle.rules.proofs.StaysCard.{stays_card}
 use Rattle.packing.specs.Packed.{command_length}
 use Rattle.cabi.proofs.PackLaws.{Low, judge_low}
 use Rattle.cabi.proofs.Small.{card_small}
+use Rattle.std.specs.Prelude.{Option, Some, None, Result, Ok, Err}
+use Rattle.rules.specs.declared.Tlv.{Tlv}
+use Rattle.rules.specs.declared.Rejection.{Rejection}
+use Rattle.rules.specs.declared.Reply.{Reply}
 
 -- a command that goes out is in hand
 abbrev Held : Effect → Type 0
@@ -63,7 +62,7 @@ stepped_held : (c : Card) → Held (stepped c)
 unfolding stepped
 stepped_held c = applied_held c (decide c)
 
-answered_held : (c : Card) (g : ℕ) (r : List ℕ) (after : Head) → Held (answered c g r after)
+answered_held : (c : Card) (g : ℕ) (r : List ℕ) (after : Option Tlv) → Held (answered c g r after)
 unfolding answered
 answered_held c g r after = applied_held c (answer_for c g r after (here c))
 
@@ -95,15 +94,15 @@ module _ (c : Card) where
   admitted_fine lent fitting refuse go f g =
       either Fine lent (λ _. either Fine (is_card c) (λ t. either Fine fitting (λ _. g t) (λ _. f Call)) (λ _. f NoCard)) (λ _. f Buffer)
 
-  load_fine : (s : List ℕ) (j : Judged) → Low j → Fine (load_by s c j)
+  load_fine : (s : List ℕ) (j : Result (Unit {0}) Rejection) → Low j → Fine (load_by s c j)
   unfolding load_by offset
-  load_fine s Accepted h k = omega arith
-  load_fine s (Rejected class at) h k = omega arith
+  load_fine s (Ok u) h k = omega arith
+  load_fine s (Err e) h k = omega arith
 
-  respond_fine : (response buffer : List ℕ) (r : Reply) → is_card c ≡ true → Fine (respond_by response buffer c r)
+  respond_fine : (response buffer : List ℕ) (r : Option Reply) → is_card c ≡ true → Fine (respond_by response buffer c r)
   unfolding respond_by respond_done respond_refused command_length
-  respond_fine response buffer (Result g after) t k = held_fits (answered c g response after) (answered_held c g response after) (k t)
-  respond_fine response buffer Malformed t k = omega arith
+  respond_fine response buffer (Some a) t k = held_fits (answered c a.general response a.after) (answered_held c a.general response a.after) (k t)
+  respond_fine response buffer None t k = omega arith
 
   pub load_fits : (s : List ℕ) → Fits (act (load s) c).answer
   unfolding act load_refused offset

@@ -15,10 +15,6 @@ use Rattle.rules.specs.Page.{spot_or, content_at, row_of, page_head, page_row, u
 use Rattle.rules.specs.Loader.{judge}
 use Rattle.rules.specs.Card.{Hand, empty, by_code, Card, in_hand, is_empty}
 use Rattle.rules.specs.IsCard.{within, hand_fine, run_fine, is_card}
-use Rattle.rules.specs.declared.Head.{Head}
-use Rattle.rules.specs.declared.Head.TheVariants.{Tlv, Past}
-use Rattle.rules.specs.declared.Spot.{Spot}
-use Rattle.rules.specs.declared.Spot.TheVariants.{After, Cut}
 use Rattle.rules.proofs.Choices.{both, either}
 use Rattle.rules.proofs.BlankTests.{first, second}
 use Rattle.rules.proofs.Offsets.{HeadIn, head_in, RowIn, row_in, SpotIn, attributes_end_in}
@@ -26,6 +22,9 @@ use Rattle.rules.proofs.StaysCardParts.{parts_of}
 use Rattle.rules.proofs.StaysCardHistory.{bounds}
 use Rattle.rules.proofs.StaysCardStep.{card_running}
 use Rattle.machine.proofs.CallLaws.{accepted_size}
+use Rattle.std.specs.Prelude.{Option, Some, None}
+use Rattle.rules.specs.declared.Tlv.{Tlv}
+use Rattle.rules.specs.Built.{some_tlv}
 
 -- a row has at most as many TLVs as bytes, and its places lie in it
 count_low : (t n from end : ℕ) (r : Tlvs) → RowIn from end r → count_in t n r ≤ n + (end - from)
@@ -54,21 +53,21 @@ unit_in_lem k from end (done p) h = tt
 unit_in_lem k from end (past p) h = tt
 unit_in_lem k from end (tlv tag at start stop rest) (a, b, d, f, h) =
     either (HeadIn 0 end) (eqb (plain tag) 0x0A)
-    (λ _. either (HeadIn 0 end) (eqb k 0) {a = Tlv tag start stop} (λ _. (omega arith, d, f)) (λ _. unit_in_lem (k - 1) stop end rest h))
+    (λ _. either (HeadIn 0 end) (eqb k 0) {a = some_tlv tag start stop} (λ _. (omega arith, d, f)) (λ _. unit_in_lem (k - 1) stop end rest h))
     (λ _. unit_in_lem k stop end rest h)
 
 module _ (s : List ℕ) where
-  spot_low : (start stop : ℕ) (p : Spot) → SpotIn start stop p → spot_or stop p ≤ stop
+  spot_low : (start stop : ℕ) (p : Option ℕ) → SpotIn start stop p → spot_or stop p ≤ stop
   unfolding spot_or
-  spot_low start stop (After p) h = h.1
-  spot_low start stop Cut h = omega arith
+  spot_low start stop (Some p) h = h.1
+  spot_low start stop None h = omega arith
 
-  row_low : (at end : ℕ) (h : Head) → HeadIn at end h → (from stop : ℕ) × (stop ≤ end) × RowIn from stop (row_of s h)
+  row_low : (at end : ℕ) (h : Option Tlv) → HeadIn at end h → (from stop : ℕ) × (stop ≤ end) × RowIn from stop (row_of s h)
   unfolding row_of content_at
-  row_low at end (Tlv tag start stop) (a, b, d) =
-      let l = spot_low start stop (attributes_end s tag start stop) (attributes_end_in s tag start stop b) in
-      (spot_or stop (attributes_end s tag start stop), stop, d, row_in 0 s _ stop l)
-  row_low at end Past h = (0, 0, omega arith, omega arith)
+  row_low at end (Some h) (a, b, d) =
+      let l = spot_low h.start h.stop (attributes_end s h.tag h.start h.stop) (attributes_end_in s h.tag h.start h.stop b) in
+      (spot_or h.stop (attributes_end s h.tag h.start h.stop), h.stop, d, row_in 0 s _ h.stop l)
+  row_low at end None h = (0, 0, omega arith, omega arith)
 
   page_row_low : (from stop : ℕ) × (stop ≤ length s) × RowIn from stop (page_row s)
   unfolding page_row page_head

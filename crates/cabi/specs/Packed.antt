@@ -1,9 +1,8 @@
 -- An answer in one number.
-use Rattle.std.specs.Prelude.{ℕ, ◌+◌, ◌*◌}
-use Rattle.rules.specs.declared.Judged.{Judged}
-use Rattle.rules.specs.declared.Judged.TheVariants.{Accepted, Rejected}
+use Rattle.std.specs.Prelude.{ℕ, ◌+◌, ◌*◌, Result, Ok, Err}
+use Rattle.rules.specs.declared.Rejection.{Rejection}
 
 -- 0 where the page is accepted, else the number in the lowest byte and the offset above it
-unfoldable pub packed : Judged → ℕ
-packed Accepted = 0
-packed (Rejected class at) = class + 256 * at
+unfoldable pub packed : Result (Unit {0}) Rejection → ℕ
+packed (Ok u) = 0
+packed (Err e) = e.class + 256 * e.place

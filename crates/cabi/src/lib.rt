@@ -9,7 +9,7 @@ ghost use Rattle.cabi.specs.Packed.{packed};
 ghost use Rattle.cabi.specs.Serves.{Serves};
 
 use machine::Machine;
-use rules::Judged;
+use rules::Rejection;
 
 // 32, and above it the outcome refused: what a step, a run or a response answers for a state buffer of another length.
 const MISFIT: u64 = 0x0420;
@@ -29,8 +29,13 @@ pub extern "C" fn usat_judge(page: &[u8]) -> u64
 {
     let judged = loader::judge(page);
     match judged {
-        Judged::Accepted => 0,
-        Judged::Rejected(number, at) => pack(number, at),
+        Ok(()) => 0,
+        Err(
+            Rejection {
+                class: number,
+                place: at,
+            },
+        ) => pack(number, at),
     }
 }
 

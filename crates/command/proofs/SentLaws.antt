@@ -10,8 +10,6 @@ use mir.Val.{Fits}
 use lib.ListN.{length, get_or, drop, length-append, length-drop}
 use lib.Seq.{length-take-le}
 use borrow.Author.Tests.{eq-eqb, ne_eqb}
-use Rattle.rules.specs.declared.Head.{Head}
-use Rattle.rules.specs.declared.Head.TheVariants.{Tlv, Past}
 use Rattle.rules.specs.Bytes.{part}
 use Rattle.rules.specs.Tlv.{head_at}
 use Rattle.rules.specs.Tlvs.{tlvs}
@@ -27,6 +25,8 @@ use Rattle.build.proofs.BuildLaws.{poured_none, poured_more, one_room, one_more_
 use Rattle.variable.specs.View.{seen, view}
 use Rattle.piece.specs.Piece.{pieces_from}
 use Rattle.command.specs.Sent.{sent}
+use Rattle.std.specs.Prelude.{Option, None, Some}
+use Rattle.rules.specs.declared.Tlv.{Tlv}
 
 module _ (page env temp perm : List ℕ) (tag at start stop : ℕ) where
   abbrev c : Card
@@ -92,17 +92,17 @@ pub ruleset sent_length_laws = (indicator_length, simple_length)
 pub ruleset send_laws = (header_room, value_room, indicator_next, indicator_sent, simple_room, simple_next, simple_sent)
 
 -- where a TLV of the row lies
-module _ (s : List ℕ) (at end : ℕ) (r : Head) (is : r ≡ head_at s at end) (tag start stop : ℕ) (x : r ≡ Tlv tag start stop) where
-  pub head_low : at ≤ start
+module _ (s : List ℕ) (at end : ℕ) (r : Option Tlv) (is : r ≡ head_at s at end) (v : Tlv) (x : r ≡ Some v) where
+  pub head_low : at ≤ v.start
   head_low = let b = head_tlv s at end (was is x) in omega arith
 
-  pub head_up : start ≤ stop
+  pub head_up : v.start ≤ v.stop
   head_up = let b = head_tlv s at end (was is x) in omega arith
 
-  pub head_high : end ≤ length s → stop ≤ length s
+  pub head_high : end ≤ length s → v.stop ≤ length s
   head_high h = let b = head_tlv s at end (was is x) in omega arith
 
-  pub head_less : at < end → end - stop < end - at
+  pub head_less : at < end → end - v.stop < end - at
   head_less h = let b = head_tlv s at end (was is x) in omega arith
 
 pub ruleset head_laws = (head_low, head_up, head_high, head_less)
@@ -124,16 +124,16 @@ module _ (s : List ℕ) (from at end sum : ℕ) (w : Summed from at sum) (h : at
   unfolding Summed
   sum_fits k l = omega arith
 
-  pub summed_more : end ≤ length s → length s ≤ 4096 → (r : Head) → r ≡ head_at s at end → (tag start stop : ℕ) → r ≡ Tlv tag start stop → Summed from stop (sum + n)
+  pub summed_more : end ≤ length s → length s ≤ 4096 → (r : Option Tlv) → r ≡ head_at s at end → (v : Tlv) → r ≡ Some v → Summed from v.stop (sum + n)
   unfolding Summed
-  summed_more k l r is tag start stop x = let b = head_tlv s at end (was is x) in omega arith
+  summed_more k l r is v x = let b = head_tlv s at end (was is x) in omega arith
 
 module _ (page env temp perm : List ℕ) (from end at : ℕ) where
   abbrev card : Card
   card = view page env temp perm
 
-  module _ (h : at < end) {tag start stop : ℕ} (e : head_at page at end ≡ Tlv tag start stop) where
-    expanded_tlv : expanded card (tlvs 0 page at end) ≡ sent card tag at start stop ++ expanded card (tlvs 0 page stop end)
+  module _ (h : at < end) {v : Tlv} (e : head_at page at end ≡ Some v) where
+    expanded_tlv : expanded card (tlvs 0 page at end) ≡ sent card v.tag at v.start v.stop ++ expanded card (tlvs 0 page v.stop end)
     unfolding expanded sent
     expanded_tlv = rw (row_tlv page at end h e)
 
@@ -142,40 +142,40 @@ module _ (page env temp perm : List ℕ) (from end at : ℕ) where
     unfolding expanded
     length_done h = let e = rw (row_done page at end h) at inv in omega arith
 
-    module _ (h : at < end) (r : Head) (is : r ≡ head_at page at end) where
-      pub length_past : r ≡ Past → sum ≡ length (expanded card (tlvs 0 page from end))
+    module _ (h : at < end) (r : Option Tlv) (is : r ≡ head_at page at end) where
+      pub length_past : r ≡ None → sum ≡ length (expanded card (tlvs 0 page from end))
       unfolding expanded
       length_past x = let e = rw (row_past page at end h (was is x)) at inv in omega arith
 
-      pub length_more : (tag start stop : ℕ) → r ≡ Tlv tag start stop → (n : ℕ) → n ≡ length (sent card tag at start stop) → sum + n + length (expanded card (tlvs 0 page stop end)) ≡ length (expanded card (tlvs 0 page from end))
-      length_more tag start stop x n f = let e = simp (expanded_tlv h (was is x), length-append) at inv in omega arith
+      pub length_more : (v : Tlv) → r ≡ Some v → (n : ℕ) → n ≡ length (sent card v.tag at v.start v.stop) → sum + n + length (expanded card (tlvs 0 page v.stop end)) ≡ length (expanded card (tlvs 0 page from end))
+      length_more v x n f = let e = simp (expanded_tlv h (was is x), length-append) at inv in omega arith
 
   module _ (out₀ out : List ℕ) (place next : ℕ) (inv : poured out next (expanded card (tlvs 0 page at end)) ≡ poured out₀ place (expanded card (tlvs 0 page from end))) where
     pub expand_done : end ≤ at → out ≡ poured out₀ place (expanded card (tlvs 0 page from end))
     unfolding expanded
     expand_done h = sym (poured_none out next) ∙ (rw (row_done page at end h) at inv)
 
-    module _ (h : at < end) (r : Head) (is : r ≡ head_at page at end) where
-      pub expand_past : r ≡ Past → out ≡ poured out₀ place (expanded card (tlvs 0 page from end))
+    module _ (h : at < end) (r : Option Tlv) (is : r ≡ head_at page at end) where
+      pub expand_past : r ≡ None → out ≡ poured out₀ place (expanded card (tlvs 0 page from end))
       unfolding expanded
       expand_past x = sym (poured_none out next) ∙ (rw (row_past page at end h (was is x)) at inv)
 
-      module _ (room : next + length (expanded card (tlvs 0 page at end)) ≤ length out) (tag start stop : ℕ) (x : r ≡ Tlv tag start stop) where
+      module _ (room : next + length (expanded card (tlvs 0 page at end)) ≤ length out) (v : Tlv) (x : r ≡ Some v) where
         abbrev rest : List ℕ
-        rest = expanded card (tlvs 0 page stop end)
+        rest = expanded card (tlvs 0 page v.stop end)
 
-        opens : expanded card (tlvs 0 page at end) ≡ sent card tag at start stop ++ rest
+        opens : expanded card (tlvs 0 page at end) ≡ sent card v.tag at v.start v.stop ++ rest
         opens = expanded_tlv h (was is x)
 
-        pub expand_room : next + length (sent card tag at start stop) ≤ length out
-        expand_room = one_room out₀ out _ rest (sent card tag at start stop) place next (rw opens at inv) (rw opens at room)
+        pub expand_room : next + length (sent card v.tag at v.start v.stop) ≤ length out
+        expand_room = one_room out₀ out _ rest (sent card v.tag at v.start v.stop) place next (rw opens at inv) (rw opens at room)
 
-        module _ (d : List ℕ) (f : d ≡ poured out next (sent card tag at start stop)) (m : ℕ) (g : m ≡ next + length (sent card tag at start stop)) where
+        module _ (d : List ℕ) (f : d ≡ poured out next (sent card v.tag at v.start v.stop)) (m : ℕ) (g : m ≡ next + length (sent card v.tag at v.start v.stop)) where
           pub expand_more : poured d m rest ≡ poured out₀ place (expanded card (tlvs 0 page from end))
-          expand_more = one_more_lem out₀ out _ rest (sent card tag at start stop) place next (rw opens at inv) (rw opens at room) d f m g
+          expand_more = one_more_lem out₀ out _ rest (sent card v.tag at v.start v.stop) place next (rw opens at inv) (rw opens at room) d f m g
 
           pub expand_rest : m + length rest ≤ length d
-          expand_rest = rest_room out₀ out _ rest (sent card tag at start stop) place next (rw opens at inv) (rw opens at room) d f m g
+          expand_rest = rest_room out₀ out _ rest (sent card v.tag at v.start v.stop) place next (rw opens at inv) (rw opens at room) d f m g
 
 pub ruleset length_laws = (summed_start, summed_small, sum_fits, summed_more, length_done, length_past, length_more)
 

@@ -5,108 +5,77 @@ ghost use Rattle.std.specs.Prelude.{◌≡◌, ◌+◌, ◌≤◌, length};
 ghost use Rattle.rules.specs.Tlvs.{tlvs};
 ghost use Rattle.rules.specs.Command.{execute_of, expanded, command};
 ghost use Rattle.pour.specs.Pour.{poured};
-ghost use Rattle.variable.specs.View.{view};
+ghost use Rattle.variable.specs.View.{viewed};
 ghost use Rattle.value.specs.Into.{into};
 ghost use Rattle.command.specs.Sent.{sent, details};
 
-use rules::Head;
+use rules::Tlv;
+use variable::View;
 
 // The length of a Simple TLV as it goes out.
-fn sent_length<'a>(
-    page: &'a [u8],
-    env: &'a [u8; 16640],
-    temp: &'a [u8; 16640],
-    perm: &'a [u8; 17920],
-    tag: u8,
-    at: usize,
-    start: usize,
-    stop: usize,
-) -> usize
-    requires { (at ≤ start) × (start ≤ stop) × (stop ≤ length page.now) × (length page.now ≤ 4096) }
-    ensures { (result ≡ length (sent (view page.now env.now temp.now perm.now) tag at start stop)) × (result ≤ 17821701) }
+#[tactic(auto, using(crate::proofs::SentLaws::sent_length_laws))]
+fn sent_length(view: View, at: usize, tlv: Tlv) -> usize
+    requires { (at ≤ tlv.start) × (tlv.start ≤ tlv.stop) × (tlv.stop ≤ length view.page.now) × (length view.page.now ≤ 4096) }
+    ensures { (result ≡ length (sent (viewed view.entry) tlv.tag at tlv.start tlv.stop)) × (result ≤ 17821701) }
 {
-    if tag == 0 {
-        let n = value::length_from(page, env, temp, perm, false, start + 1, stop);
+    if tlv.tag == 0 {
+        let n = value::length_from(view, false, tlv.start + 1, tlv.stop);
         return build::header_size(n) + n;
     }
-    stop - at
+    tlv.stop - at
 }
 
 // The length of all Simple TLVs as they go out.
-fn expanded_length<'a>(
-    page: &'a [u8],
-    env: &'a [u8; 16640],
-    temp: &'a [u8; 16640],
-    perm: &'a [u8; 17920],
-    from: usize,
-    end: usize,
-) -> usize
-    requires { (end ≤ length page.now) × (length page.now ≤ 4096) }
-    ensures { (result ≡ length (expanded (view page.now env.now temp.now perm.now) (tlvs 0 page.now from end))) × (result ≤ 72997687296) }
+#[tactic(auto, using(crate::proofs::SentLaws::head_laws, crate::proofs::SentLaws::length_laws))]
+fn expanded_length(view: View, from: usize, end: usize) -> usize
+    requires { (end ≤ length view.page.now) × (length view.page.now ≤ 4096) }
+    ensures { (result ≡ length (expanded (viewed view.entry) (tlvs 0 view.entry.page.now from end))) × (result ≤ 72997687296) }
 {
     let mut at = from;
     let mut sum: usize = 0;
     while at < end {
-        let Head::Tlv(tag, start, stop) = tlv::head_at(page, at, end) else {
+        let Some(tlv) = tlv::head_at(view.page, at, end) else {
             return sum;
         };
-        sum = sum + sent_length(page, env, temp, perm, tag, at, start, stop);
-        at = stop;
+        sum += sent_length(view, at, tlv);
+        at = tlv.stop;
     }
     sum
 }
 
 // A Simple TLV as it goes out: as it stands, but an Indicator expanded.
-fn send_one<'a>(
-    page: &'a [u8],
-    env: &'a [u8; 16640],
-    temp: &'a [u8; 16640],
-    perm: &'a [u8; 17920],
-    tag: u8,
-    at: usize,
-    start: usize,
-    stop: usize,
-    out: &mut [u8],
-    place: usize,
-) -> usize
-    requires { (at ≤ start) × (start ≤ stop) × (stop ≤ length page.now) × (length page.now ≤ 4096) × (place + length (sent (view page.now env.now temp.now perm.now) tag at start stop) ≤ length out.old) }
-    ensures { (result ≡ place + length (sent (view page.now env.now temp.now perm.now) tag at start stop)) × (out.new ≡ poured out.old place (sent (view page.now env.now temp.now perm.now) tag at start stop)) }
+fn send_one(view: View, at: usize, tlv: Tlv, out: &mut [u8], place: usize) -> usize
+    requires { (at ≤ tlv.start) × (tlv.start ≤ tlv.stop) × (tlv.stop ≤ length view.page.now) × (length view.page.now ≤ 4096) × (place + length (sent (viewed view) tlv.tag at tlv.start tlv.stop) ≤ length out.old) }
+    ensures { (result ≡ place + length (sent (viewed view.entry) tlv.tag at tlv.start tlv.stop)) × (out.new ≡ poured out.old place (sent (viewed view.entry) tlv.tag at tlv.start tlv.stop)) }
 {
-    if tag == 0 {
-        let n = value::length_from(page, env, temp, perm, false, start + 1, stop);
-        let next = build::header(out, place, slice::byte_at(page, start), n);
-        value::join_from(page, env, temp, perm, false, start + 1, stop, out, next);
+    if tlv.tag == 0 {
+        let n = value::length_from(view, false, tlv.start + 1, tlv.stop);
+        let next = build::header(out, place, slice::byte_at(view.page, tlv.start), n);
+        value::join_from(view, false, tlv.start + 1, tlv.stop, out, next);
         return next + n;
     }
-    build::append(out, place, slice::part_of(page, at, stop))
+    build::append(out, place, slice::part_of(view.page, at, tlv.stop))
 }
 
 // All Simple TLVs as they go out.
-fn expand<'a>(
-    page: &'a [u8],
-    env: &'a [u8; 16640],
-    temp: &'a [u8; 16640],
-    perm: &'a [u8; 17920],
-    from: usize,
-    end: usize,
-    out: &mut [u8],
-    place: usize,
-)
-    requires { (end ≤ length page.now) × (length page.now ≤ 4096) × (place + length (expanded (view page.now env.now temp.now perm.now) (tlvs 0 page.now from end)) ≤ length out.old) }
-    ensures { out.new ≡ poured out.old place (expanded (view page.now env.now temp.now perm.now) (tlvs 0 page.now from end)) }
+#[tactic(auto, using(crate::proofs::SentLaws::expand_laws, crate::proofs::SentLaws::head_laws))]
+fn expand(view: View, from: usize, end: usize, out: &mut [u8], place: usize)
+    requires { (end ≤ length view.page.now) × (length view.page.now ≤ 4096) × (place + length (expanded (viewed view) (tlvs 0 view.page.now from end)) ≤ length out.old) }
+    ensures { out.new ≡ poured out.old place (expanded (viewed view.entry) (tlvs 0 view.entry.page.now from end)) }
 {
     let mut at = from;
     let mut next = place;
     while at < end {
-        let Head::Tlv(tag, start, stop) = tlv::head_at(page, at, end) else {
+        let Some(tlv) = tlv::head_at(view.page, at, end) else {
             return;
         };
-        next = send_one(page, env, temp, perm, tag, at, start, stop, out, next);
-        at = stop;
+        next = send_one(view, at, tlv, out, next);
+        at = tlv.stop;
     }
 }
 
 // Command details with number 1 (House) and device identities from the UICC.
+#[tactic(auto, using(crate::proofs::CommandLaws::details_put))]
 fn put_details(page: &[u8], at: usize, out: &mut [u8], place: usize) -> usize
     requires { (at ≤ length page.now + 2) × (place + 9 ≤ length out.old) }
     ensures { (result ≡ place + 9) × (out.new ≡ poured out.old place (details page.now at)) }
@@ -129,27 +98,19 @@ fn put_details(page: &[u8], at: usize, out: &mut [u8], place: usize) -> usize
 }
 
 // The command, put at the start of out where it has at most 255 bytes; its length.
-pub fn command_into<'a>(
-    page: &'a [u8],
-    env: &'a [u8; 16640],
-    temp: &'a [u8; 16640],
-    perm: &'a [u8; 17920],
-    tag: u8,
-    start: usize,
-    stop: usize,
-    out: &mut [u8; 256],
-) -> usize
-    requires { (start ≤ stop) × (stop ≤ length page.now) × (length page.now ≤ 4096) }
-    ensures { (result ≡ length (command (view page.now env.now temp.now perm.now) (execute_of page.now tag start stop))) × (out.new ≡ into out.old (command (view page.now env.now temp.now perm.now) (execute_of page.now tag start stop))) }
+#[tactic(auto, using(crate::proofs::CommandLaws::command_laws))]
+pub fn command_into(view: View, tlv: Tlv, out: &mut [u8; 256]) -> usize
+    requires { (tlv.start ≤ tlv.stop) × (tlv.stop ≤ length view.page.now) × (length view.page.now ≤ 4096) }
+    ensures { (result ≡ length (command (viewed view.entry) (execute_of view.entry.page.now tlv.tag tlv.start tlv.stop))) × (out.new ≡ into out.old (command (viewed view.entry) (execute_of view.entry.page.now tlv.tag tlv.start tlv.stop))) }
 {
-    let at = execute::type_at(page, tag, start, stop);
-    let body = 9 + expanded_length(page, env, temp, perm, at + 3, stop);
+    let at = execute::type_at(view.page, tlv);
+    let body = 9 + expanded_length(view, at + 3, tlv.stop);
     let n = build::header_size(body) + body;
     if 255 < n {
         return n;
     }
     let first = build::header(out, 0, 0xD0, body);
-    let next = put_details(page, at, out, first);
-    expand(page, env, temp, perm, at + 3, stop, out, next);
+    let next = put_details(view.page, at, out, first);
+    expand(view, at + 3, tlv.stop, out, next);
     n
 }

@@ -11,8 +11,6 @@ use lib.Dec.{ltb, eqb}
 use borrow.Author.Tests.{ltb-true, eq-eqb, ne_eqb}
 use Rattle.rules.specs.declared.Pair.{Pair}
 use Rattle.rules.specs.declared.Pair.TheVariants.{Text, Number, Broken}
-use Rattle.rules.specs.declared.Spot.{Spot}
-use Rattle.rules.specs.declared.Spot.TheVariants.{After, Cut}
 use Rattle.rules.specs.Bytes.{same, part}
 use Rattle.rules.specs.Store.{read, value_bytes}
 use Rattle.rules.specs.Value.{joined}
@@ -22,6 +20,7 @@ use Rattle.variable.specs.View.{seen, view}
 use Rattle.piece.specs.Piece.{pieces_from, piece_at}
 use Rattle.piece.proofs.PieceLaws.{from_full, from_text, from_variable, from_cut}
 use Rattle.equal.specs.Passed.{passed}
+use Rattle.std.specs.Prelude.{Option, Some, None}
 
 same_front : (v rest b : List ℕ) → same (v ++ rest) b ≡ cond (same v (take (length v) b)) (same rest (drop (length v) b)) false
 unfolding same
@@ -38,7 +37,7 @@ module _ (bytes : List ℕ) (at : ℕ) (v : List ℕ) where
       same_length v front
       (λ e. let l : length front ≤ length bytes - at = simp (length-take, length-drop) (omega arith) in omega arith)
 
-  pub pass_short : length bytes - at < length v → Cut ≡ passed bytes at v
+  pub pass_short : length bytes - at < length v → None ≡ passed bytes at v
   unfolding passed
   pass_short h = simp (too_short h)
 
@@ -46,40 +45,40 @@ module _ (bytes : List ℕ) (at : ℕ) (v : List ℕ) where
     is_front : b ≡ same v front
     is_front = let n : at + length v - at ≡ length v = omega arith in rw n at e
 
-    pub pass_this : b ≡ true → After (at + length v) ≡ passed bytes at v
+    pub pass_this : b ≡ true → Some (at + length v) ≡ passed bytes at v
     unfolding passed
     pass_this x = simp (was is_front x)
 
-    pub pass_other : b ≡ false → Cut ≡ passed bytes at v
+    pub pass_other : b ≡ false → None ≡ passed bytes at v
     unfolding passed
     pass_other x = simp (was is_front x)
 
   -- what a caller learns of the answer
-  went_on : (m : ℕ) → passed bytes at v ≡ After m → (same v front ≡ true) × (at + length v ≡ m)
+  went_on : (m : ℕ) → passed bytes at v ≡ Some m → (same v front ≡ true) × (at + length v ≡ m)
   unfolding passed
   went_on m e =
       both (same v front)
-      (λ t. let p : passed bytes at v ≡ After (at + length v) = simp t in let q = sym p ∙ e in (t, cc))
-      (λ t. let p : passed bytes at v ≡ Cut = simp t in let q = sym p ∙ e in let z : ◌≡◌ {A = ℕ} 0 1 = cc in absurd (omega arith))
+      (λ t. let p : passed bytes at v ≡ Some (at + length v) = simp t in let q = sym p ∙ e in (t, cc))
+      (λ t. let p : passed bytes at v ≡ None = simp t in let q = sym p ∙ e in let z : ◌≡◌ {A = ℕ} 0 1 = cc in absurd (omega arith))
 
-  stopped : passed bytes at v ≡ Cut → same v front ≡ false
+  stopped : passed bytes at v ≡ None → same v front ≡ false
   unfolding passed
   stopped e =
       both (same v front)
-      (λ t. let p : passed bytes at v ≡ After (at + length v) = simp t in let q = sym p ∙ e in let z : ◌≡◌ {A = ℕ} 0 1 = cc in absurd (omega arith))
+      (λ t. let p : passed bytes at v ≡ Some (at + length v) = simp t in let q = sym p ∙ e in let z : ◌≡◌ {A = ℕ} 0 1 = cc in absurd (omega arith))
       (λ t. t)
 
-  pub pass_within : at ≤ length bytes → (r : Spot) → r ≡ passed bytes at v → (m : ℕ) → r ≡ After m → m ≤ length bytes
+  pub pass_within : at ≤ length bytes → (r : Option ℕ) → r ≡ passed bytes at v → (m : ℕ) → r ≡ Some m → m ≤ length bytes
   pass_within h r is m x =
       let w = went_on m (was is x) in
       both (ltb (length bytes - at) (length v))
       (λ t. let f : true ≡ false = sym w.0 ∙ too_short (ltb-true _ _ t) in let z : ◌≡◌ {A = ℕ} 0 1 = cc in absurd (omega arith))
       (λ t. omega tests)
 
-  pub same_on : (rest : List ℕ) (m : ℕ) → passed bytes at v ≡ After m → same (v ++ rest) (drop at bytes) ≡ same rest (drop m bytes)
+  pub same_on : (rest : List ℕ) (m : ℕ) → passed bytes at v ≡ Some m → same (v ++ rest) (drop at bytes) ≡ same rest (drop m bytes)
   same_on rest m e = let w = went_on m e in same_front v rest (drop at bytes) ∙ simp (w.0, drop-drop (length v) at bytes, w.1)
 
-  pub same_off : (rest : List ℕ) → passed bytes at v ≡ Cut → same (v ++ rest) (drop at bytes) ≡ false
+  pub same_off : (rest : List ℕ) → passed bytes at v ≡ None → same (v ++ rest) (drop at bytes) ≡ false
   same_off rest e = same_front v rest (drop at bytes) ∙ simp (stopped e)
 
 pub ruleset pass_laws = (pass_short, pass_this, pass_other)
@@ -110,26 +109,26 @@ module _ (page env temp perm bytes : List ℕ) (list : Bool) (from at end met : 
     unfolding joined
     equal_cut x k = same_end bytes met k ∙ (rw (from_cut page at end h list (was is x)) at inv)
 
-    module _ (a b : ℕ) (x : p ≡ Text a b) (v : List ℕ) (e : v ≡ part page a b) (r : Spot) (f : r ≡ passed bytes met v) where
+    module _ (a b : ℕ) (x : p ≡ Text a b) (v : List ℕ) (e : v ≡ part page a b) (r : Option ℕ) (f : r ≡ passed bytes met v) where
       unfolds : same (v ++ joined (view page env temp perm) (pieces_from list page b end)) (drop met bytes) ≡ whole
       unfolding joined view seen
       unfolds = rw e (rw (from_text page at end h list (was is x)) at inv)
 
-      pub text_on : (m : ℕ) → r ≡ After m → same (joined (view page env temp perm) (pieces_from list page b end)) (drop m bytes) ≡ whole
+      pub text_on : (m : ℕ) → r ≡ Some m → same (joined (view page env temp perm) (pieces_from list page b end)) (drop m bytes) ≡ whole
       text_on m y = sym (same_on bytes met v _ m (was f y)) ∙ unfolds
 
-      pub text_off : r ≡ Cut → false ≡ whole
+      pub text_off : r ≡ None → false ≡ whole
       text_off y = sym (same_off bytes met v _ (was f y)) ∙ unfolds
 
-    module _ (k : end ≤ length page) (n next : ℕ) (x : p ≡ Number n next) (v : List ℕ) (e : v ≡ value_bytes (read (view page env temp perm) n)) (r : Spot) (f : r ≡ passed bytes met v) where
+    module _ (k : end ≤ length page) (n next : ℕ) (x : p ≡ Number n next) (v : List ℕ) (e : v ≡ value_bytes (read (view page env temp perm) n)) (r : Option ℕ) (f : r ≡ passed bytes met v) where
       opens : same (v ++ joined (view page env temp perm) (pieces_from list page next end)) (drop met bytes) ≡ whole
       unfolding joined
       opens = rw e (rw (from_variable page at end h list k (was is x)) at inv)
 
-      pub variable_on : (m : ℕ) → r ≡ After m → same (joined (view page env temp perm) (pieces_from list page next end)) (drop m bytes) ≡ whole
+      pub variable_on : (m : ℕ) → r ≡ Some m → same (joined (view page env temp perm) (pieces_from list page next end)) (drop m bytes) ≡ whole
       variable_on m y = sym (same_on bytes met v _ m (was f y)) ∙ opens
 
-      pub variable_off : r ≡ Cut → false ≡ whole
+      pub variable_off : r ≡ None → false ≡ whole
       variable_off y = sym (same_off bytes met v _ (was f y)) ∙ opens
 
 pub ruleset equal_laws = (pass_within, equal_done, equal_cut, text_on, text_off, variable_on, variable_off)

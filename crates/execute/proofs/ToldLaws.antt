@@ -6,8 +6,6 @@ use mathlib.Core.List.{List, []}
 use mathlib.Core.Path.{◌≡◌, refl, sym, ◌∙◌}
 use lib.Dec.{eqb}
 use borrow.Author.Tests.{eq-eqb, ne_eqb}
-use Rattle.rules.specs.declared.Head.{Head}
-use Rattle.rules.specs.declared.Head.TheVariants.{Tlv, Past}
 use Rattle.rules.specs.declared.Complaint.{Complaint}
 use Rattle.rules.specs.declared.Complaint.TheVariants.{Nothing}
 use Rattle.rules.specs.Tlv.{head_at}
@@ -24,6 +22,8 @@ use Rattle.variable.specs.View.{seen, view}
 use Rattle.variable.proofs.ComplaintLaws.{worse_nothing, nothing_worse, worse_assoc}
 use Rattle.piece.specs.Piece.{pieces_from}
 use Rattle.execute.specs.Told.{general_told, output_told, result_told}
+use Rattle.std.specs.Prelude.{Option, None, Some}
+use Rattle.rules.specs.declared.Tlv.{Tlv}
 
 module _ (s : List ℕ) (x : Execute) where
   module _ (b : Bool) (is : b ≡ has_general x) where
@@ -77,14 +77,14 @@ module _ (page env temp perm : List ℕ) (from end : ℕ) where
     unfolding indicator_complaint
     simple_done h = sym (nothing_worse worst) ∙ (rw (row_done page at end h) at inv)
 
-    module _ (h : at < end) (r : Head) (is : r ≡ head_at page at end) where
-      pub simple_past : r ≡ Past → worst ≡ indicator_complaint c (tlvs 0 page from end)
+    module _ (h : at < end) (r : Option Tlv) (is : r ≡ head_at page at end) where
+      pub simple_past : r ≡ None → worst ≡ indicator_complaint c (tlvs 0 page from end)
       unfolding indicator_complaint
       simple_past y = sym (nothing_worse worst) ∙ (rw (row_past page at end h (was is y)) at inv)
 
-      pub simple_more : (tag start stop : ℕ) → r ≡ Tlv tag start stop → (one : Complaint) → one ≡ cond (eqb tag 0) (complaint c [] (pieces true page (start + 1) stop)) Nothing → (w : Complaint) → w ≡ worse worst one → worse w (indicator_complaint c (tlvs 0 page stop end)) ≡ indicator_complaint c (tlvs 0 page from end)
+      pub simple_more : (v : Tlv) → r ≡ Some v → (one : Complaint) → one ≡ cond (eqb v.tag 0) (complaint c [] (pieces true page (v.start + 1) v.stop)) Nothing → (w : Complaint) → w ≡ worse worst one → worse w (indicator_complaint c (tlvs 0 page v.stop end)) ≡ indicator_complaint c (tlvs 0 page from end)
       unfolding indicator_complaint view seen
-      simple_more tag start stop y one e w f = rw (f, e) (worse_assoc worst _ _ ∙ (rw (row_tlv page at end h (was is y)) at inv))
+      simple_more v y one e w f = rw (f, e) (worse_assoc worst _ _ ∙ (rw (row_tlv page at end h (was is y)) at inv))
 
 pub ruleset simple_laws = (simple_start, simple_done, simple_past, simple_more)
 

@@ -7,14 +7,10 @@ use mathlib.Core.Path.{◌≡◌, refl, sym, subst, ap, ◌∙◌}
 use native.Mathlib.Omega.{arith}
 use lib.Dec.{eqb, ltb, leb}
 use borrow.Author.Tests.{le-ltb, lt-leb, eq-eqb, ne_eqb, eqb-true, eqb-false, ltb-true, leb-true}
-use Rattle.rules.specs.declared.Head.{Head}
-use Rattle.rules.specs.declared.Head.TheVariants.{Tlv}
 use Rattle.rules.specs.declared.Body.{Body}
 use Rattle.rules.specs.declared.Body.TheVariants.{Inner, Leaf}
 use Rattle.rules.specs.declared.Look.{Look}
 use Rattle.rules.specs.declared.Look.TheVariants.{Fault, Over, Into}
-use Rattle.rules.specs.declared.Found.{Found}
-use Rattle.rules.specs.declared.Found.TheVariants.{Fine}
 use Rattle.rules.specs.Tlv.{head_at}
 use Rattle.rules.specs.Tlvs.{tlvs, plain, count}
 use Rattle.rules.specs.Grammar.{cell_of, gap_of, lacks, unit_kind, command_kind}
@@ -32,6 +28,8 @@ use Rattle.faultless.specs.Clean.{Admitted, Shaped, Settled, Agreed, FreshHead, 
 use Rattle.classes.proofs.LookLaws.{look_into}
 use Rattle.classes.proofs.WalkLaws.{t_less, t_within, Left, w_floor, w_start, w_done}
 use Rattle.faultless.proofs.Front.{Counted, counted_none, counted_here, counted_on}
+use Rattle.std.specs.Prelude.{Option, None, Some}
+use Rattle.rules.specs.declared.Tlv.{Tlv}
 
 pub is_so : (b : Bool) → not b ≡ false → b ≡ true
 is_so true e = refl
@@ -70,19 +68,15 @@ module _ (anchor gap units modifiers at tag : ℕ) where
 pub ruleset admitted_laws = (admitted_anchor, admitted_unit, admitted_modifier, admitted_other)
 
 module _ (left counted tag : ℕ) where
-  pub after_none : tag % 128 ≡ counted → left ≡ 0 → 0 ≡ cond (eqb (plain tag) counted) (left - 1) left
+  pub after_one_lem : tag % 128 ≡ counted → (r : ℕ) → r ≡ left - 1 → r ≡ cond (eqb (plain tag) counted) (left - 1) left
   unfolding plain
-  after_none t z = let l : left - 1 ≡ 0 = omega arith in simp (eq-eqb (tag % 128) counted t, l)
-
-  pub after_one_lem : tag % 128 ≡ counted → left - 1 ≡ cond (eqb (plain tag) counted) (left - 1) left
-  unfolding plain
-  after_one_lem t = simp (eq-eqb (tag % 128) counted t)
+  after_one_lem t r e = e ∙ simp (eq-eqb (tag % 128) counted t)
 
   pub after_other : (tag % 128 ≡ counted → ⊥) → left ≡ cond (eqb (plain tag) counted) (left - 1) left
   unfolding plain
   after_other t = simp (ne_eqb (tag % 128) counted t)
 
-pub ruleset after_laws = (after_none, after_one_lem, after_other)
+pub ruleset after_laws = (after_one_lem, after_other)
 
 module _ (s : List ℕ) (within at tag start stop below : ℕ) where
   pub settled_fault : (Fault ≡ Fault → ⊥) → Settled s within at tag start stop below Fault
@@ -100,7 +94,7 @@ module _ (s : List ℕ) (within at tag start stop below : ℕ) where
       pub settled_in : start ≤ stop → p ≤ stop
       settled_in h = body_inner s within tag start stop h inner
 
-      pub settled_command : kind ≡ command_kind → (r : Found) → r ≡ walk below s 3 kind at p stop → r ≡ Fine → (Over ≡ Fault → ⊥) → Settled s within at tag start stop below Over
+      pub settled_command : kind ≡ command_kind → (r : Option ℕ) → r ≡ walk below s 3 kind at p stop → r ≡ None → (Over ≡ Fault → ⊥) → Settled s within at tag start stop below Over
       unfolding Settled shape_look judged_look goes or_then
       settled_command k r re rx n = (simp (inner, eq-eqb kind command_kind k), λ rest. simp (inner, sym re ∙ rx))
 
@@ -142,7 +136,7 @@ agreed_in s within anchor gap units modifiers last cell at tag start stop below 
 
 -- where class 3 comes to the same as the others see, each class does
 pub goes_same : (s : List ℕ) (within last cell from at tag start stop below : ℕ) (l : Look) (class : ℕ) → 3 ≤ class → Shaped s within at tag start stop below l
-    → (4 ≤ class → look s class within last cell from at tag start stop ≡ l) → (rest : Found)
+    → (4 ≤ class → look s class within last cell from at tag start stop ≡ l) → (rest : Option ℕ)
     → goes (λ k o p e. walk below s class k o p e) at stop rest (look s class within last cell from at tag start stop) ≡ goes (λ k o p e. walk below s class k o p e) at stop rest l
 unfolding look
 goes_same s within last cell from at tag start stop below l class c three four rest =
@@ -166,7 +160,7 @@ unfoldable pub Rest : List ℕ → ℕ → ℕ → ℕ → ℕ → ℕ → ℕ �
 Rest s within anchor room from gap end left at last =
     (class own : ℕ) → 3 ≤ class → Known s class anchor room end → Left s class within from gap end left at last (walk left s class within own from end)
 
-floor_none : (class within from end : ℕ) → end - from ≤ gap_of within → Fine ≡ floor class within from end
+floor_none : (class within from end : ℕ) → end - from ≤ gap_of within → None ≡ floor class within from end
 unfolding floor
 floor_none class within from end h = both (eqb class 3) (λ t. simp (t, le-ltb (gap_of within) (end - from) h)) (λ t. simp t)
 
@@ -182,7 +176,7 @@ known_below s class anchor room end stop k = (λ q h. let no : ⊥ = omega arith
 module _ (s : List ℕ) (within anchor room from end left : ℕ) where
   pub c_floor : left ≡ 0 → (gap : ℕ) → gap ≡ gap_of within → leb (end - from) gap ≡ true → Clean s within anchor room from end left
   unfolding Clean
-  c_floor z gap g x class own c k = let h = leb-true (end - from) gap x in sym (w_floor s class within own from end left z Fine (floor_none class within from end (omega (arith, g))))
+  c_floor z gap g x class own c k = let h = leb-true (end - from) gap x in sym (w_floor s class within own from end left z None (floor_none class within from end (omega (arith, g))))
 
   pub c_start : (left ≡ 0 → ⊥) → (b : Bool) → b ≡ lacks within end (tlvs (gap_of within) s from end) → b ≡ false → (gap : ℕ) → gap ≡ gap_of within
       → Rest s within anchor room from gap end left from 0
@@ -194,75 +188,75 @@ module _ (s : List ℕ) (within anchor room from gap end left at last modifiers 
   unfolding Rest Clean
   c_done h x class own c k = sym (w_done s class within from gap end left at last _ (inv class own c k) h)
 
-  module _ (cnt : Counted 0x08 s gap from room at modifiers) (go : gap < end - at) (h : Head) (is : h ≡ head_at s (at + gap) end) (t start stop : ℕ) (e : h ≡ Tlv t start stop) where
-    module _ (cell : ℕ) (ce : cell ≡ cell_of within t) (l : Look) (ag : (l ≡ Fault → ⊥) → Agreed s within anchor gap 0 modifiers last cell (at + gap) t start stop (left - 1) l) (n : l ≡ Fault → ⊥) where
-      admitted : Admitted anchor gap 0 modifiers (at + gap) t
+  module _ (cnt : Counted 0x08 s gap from room at modifiers) (go : gap < end - at) (h : Option Tlv) (is : h ≡ head_at s (at + gap) end) (v : Tlv) (e : h ≡ Some v) where
+    module _ (cell : ℕ) (ce : cell ≡ cell_of within v.tag) (l : Look) (ag : (l ≡ Fault → ⊥) → Agreed s within anchor gap 0 modifiers last cell (at + gap) v.tag v.start v.stop (left - 1) l) (n : l ≡ Fault → ⊥) where
+      admitted : Admitted anchor gap 0 modifiers (at + gap) v.tag
       unfolding Agreed
       admitted = (ag n).0
 
-      anchored : (class : ℕ) → Known s class anchor room end → class ≡ 5 → bad_anchor s (at + gap) t start stop ≡ false
+      anchored : (class : ℕ) → Known s class anchor room end → class ≡ 5 → bad_anchor s (at + gap) v.tag v.start v.stop ≡ false
       unfolding Admitted Known Fresh
       anchored class k q =
-          both (eqb t 0x0B)
-          (λ x. let y = eqb-true t 0x0B x in
+          both (eqb v.tag 0x0B)
+          (λ x. let y = eqb-true v.tag 0x0B x in
           let p = admitted.0 y in
           let b = head_tlv s (at + gap) end (sym is ∙ e) in
           let f = subst (FreshHead s anchor) (sym (ap (λ p. head_at s p end) p) ∙ sym is ∙ e) (k.0 q (omega arith)) y in
-          ap (λ p. bad_anchor s p t start stop) p ∙ f)
-          (λ x. sym (anchor_none s (at + gap) t start stop (eqb-false t 0x0B x)))
+          ap (λ p. bad_anchor s p v.tag v.start v.stop) p ∙ f)
+          (λ x. sym (anchor_none s (at + gap) v.tag v.start v.stop (eqb-false v.tag 0x0B x)))
 
-      uncrowded : (class : ℕ) → Known s class anchor room end → class ≡ 6 → crowded s within from (at + gap) t ≡ false
+      uncrowded : (class : ℕ) → Known s class anchor room end → class ≡ 6 → crowded s within from (at + gap) v.tag ≡ false
       unfolding Admitted Known Counted
       uncrowded class k q =
-          both (eqb (t % 128) 0x0A)
-          (λ x. let y = admitted.1 (eqb-true (t % 128) 0x0A x) in let no : ⊥ = omega arith in absurd no)
-          (λ x. both (eqb (t % 128) 0x08)
-          (λ y. let z = admitted.2 (eqb-true (t % 128) 0x08 y) in
+          both (eqb (v.tag % 128) 0x0A)
+          (λ x. let y = admitted.1 (eqb-true (v.tag % 128) 0x0A x) in let no : ⊥ = omega arith in absurd no)
+          (λ x. both (eqb (v.tag % 128) 0x08)
+          (λ y. let z = admitted.2 (eqb-true (v.tag % 128) 0x08 y) in
           let i = cnt.0 in
           let w = k.1 q in
-          few s within from (at + gap) t (room - modifiers) (eqb-false (t % 128) 0x0A x) (eqb-true (t % 128) 0x08 y) (counted_here 0x08 s gap from room at modifiers cnt z.0) (omega arith))
-          (λ y. sym (crowded_none s within from (at + gap) t (eqb-false (t % 128) 0x0A x) (eqb-false (t % 128) 0x08 y))))
+          few s within from (at + gap) v.tag (room - modifiers) (eqb-false (v.tag % 128) 0x0A x) (eqb-true (v.tag % 128) 0x08 y) (counted_here 0x08 s gap from room at modifiers cnt z.0) (omega arith))
+          (λ y. sym (crowded_none s within from (at + gap) v.tag (eqb-false (v.tag % 128) 0x0A x) (eqb-false (v.tag % 128) 0x08 y))))
 
-      same : (class : ℕ) → 4 ≤ class → Known s class anchor room end → look s class within last cell from (at + gap) t start stop ≡ l
+      same : (class : ℕ) → 4 ≤ class → Known s class anchor room end → look s class within last cell from (at + gap) v.tag v.start v.stop ≡ l
       unfolding Agreed
       same class c k = (ag n).1 class from c (λ q. anchored class k q) (λ q. uncrowded class k q)
 
-      shaped : Shaped s within (at + gap) t start stop (left - 1) l
+      shaped : Shaped s within (at + gap) v.tag v.start v.stop (left - 1) l
       unfolding Agreed
       shaped = (ag n).2
 
       here : (class : ℕ) → row_fault s class (λ k o p e. walk (left - 1) s class k o p e) within from last (tlvs gap s at end)
-          ≡ goes (λ k o p e. walk (left - 1) s class k o p e) (at + gap) stop (row_fault s class (λ k o p e. walk (left - 1) s class k o p e) within from cell (tlvs gap s stop end))
-          (look s class within last cell from (at + gap) t start stop)
+          ≡ goes (λ k o p e. walk (left - 1) s class k o p e) (at + gap) v.stop (row_fault s class (λ k o p e. walk (left - 1) s class k o p e) within from cell (tlvs gap s v.stop end))
+          (look s class within last cell from (at + gap) v.tag v.start v.stop)
       unfolding row_fault
       here class = simp (tlvs_tlv gap s at end go (sym is ∙ e), sym ce)
 
       on : (class : ℕ) → 3 ≤ class → Known s class anchor room end
           → row_fault s class (λ k o p e. walk (left - 1) s class k o p e) within from last (tlvs gap s at end)
-          ≡ goes (λ k o p e. walk (left - 1) s class k o p e) (at + gap) stop (row_fault s class (λ k o p e. walk (left - 1) s class k o p e) within from cell (tlvs gap s stop end)) l
-      on class c k = here class ∙ goes_same s within last cell from (at + gap) t start stop (left - 1) l class c shaped (λ d. same class d k) _
+          ≡ goes (λ k o p e. walk (left - 1) s class k o p e) (at + gap) v.stop (row_fault s class (λ k o p e. walk (left - 1) s class k o p e) within from cell (tlvs gap s v.stop end)) l
+      on class c k = here class ∙ goes_same s within last cell from (at + gap) v.tag v.start v.stop (left - 1) l class c shaped (λ d. same class d k) _
 
-      count_on : (less : ℕ) → less ≡ cond (eqb (plain t) 0x08) (modifiers - 1) modifiers → Counted 0x08 s gap from room stop less
+      count_on : (less : ℕ) → less ≡ cond (eqb (plain v.tag) 0x08) (modifiers - 1) modifiers → Counted 0x08 s gap from room v.stop less
       unfolding Admitted
       count_on less f = counted_on 0x08 s gap from room at modifiers cnt end (sym is ∙ e) (λ q. (admitted.2 q).1) less f
 
-    module _ (cell : ℕ) (ce : cell ≡ cell_of within t) (l : Look) (ag : (l ≡ Fault → ⊥) → Agreed s within anchor gap 0 modifiers last cell (at + gap) t start stop (left - 1) l) where
+    module _ (cell : ℕ) (ce : cell ≡ cell_of within v.tag) (l : Look) (ag : (l ≡ Fault → ⊥) → Agreed s within anchor gap 0 modifiers last cell (at + gap) v.tag v.start v.stop (left - 1) l) where
       module _ (x : l ≡ Over) where
-        pub c_over : Rest s within anchor room from gap end left stop cell
+        pub c_over : Rest s within anchor room from gap end left v.stop cell
         unfolding Rest goes
         c_over class own c k = sym (on cell ce l ag (over_not l x) class c k ∙ simp x) ∙ inv class own c k
 
-        pub c_over_count : (less : ℕ) → less ≡ cond (eqb (plain t) 0x08) (modifiers - 1) modifiers → Counted 0x08 s gap from room stop less
+        pub c_over_count : (less : ℕ) → less ≡ cond (eqb (plain v.tag) 0x08) (modifiers - 1) modifiers → Counted 0x08 s gap from room v.stop less
         c_over_count = count_on cell ce l ag (over_not l x)
 
       module _ (kind p : ℕ) (x : l ≡ Into kind p) where
-        pub c_into_count : (less : ℕ) → less ≡ cond (eqb (plain t) 0x08) (modifiers - 1) modifiers → Counted 0x08 s gap from room stop less
+        pub c_into_count : (less : ℕ) → less ≡ cond (eqb (plain v.tag) 0x08) (modifiers - 1) modifiers → Counted 0x08 s gap from room v.stop less
         c_into_count = count_on cell ce l ag (into_not l kind p x)
 
-        pub c_into : (r : Bool) → (r ≡ true → Clean s kind stop 0 p stop (left - 1)) → not r ≡ false → Rest s within anchor room from gap end left stop cell
+        pub c_into : (r : Bool) → (r ≡ true → Clean s kind v.stop 0 p v.stop (left - 1)) → not r ≡ false → Rest s within anchor room from gap end left v.stop cell
         unfolding Rest Clean goes or_then
         c_into r re rx class own c k =
-            let f = re (is_so r rx) class (at + gap) c (known_below s class anchor room end stop k) in
+            let f = re (is_so r rx) class (at + gap) c (known_below s class anchor room end v.stop k) in
             sym (on cell ce l ag (into_not l kind p x) class c k ∙ simp (x, f)) ∙ inv class own c k
 
 pub ruleset clean_laws = (c_floor, c_start, c_done, t_less, t_within, c_over, c_over_count, counted_none)

@@ -8,19 +8,18 @@ use native.Mathlib.Omega.{arith}
 use lib.ListN.{get_or}
 use lib.Dec.{ltb, leb, eqb}
 use borrow.Author.Tests.{le-ltb, lt-leb, eqb-true}
-use Rattle.rules.specs.declared.Length.{Length}
-use Rattle.rules.specs.declared.Length.TheVariants.{Got, Bad}
-use Rattle.rules.specs.declared.Head.{Head}
-use Rattle.rules.specs.declared.Head.TheVariants.{Tlv, Past}
 use Rattle.rules.specs.Tlv.{length_at, head_at, head_of}
 use Rattle.rules.specs.Tlvs.{tlvs, plain, count_in, count}
 use Rattle.leaf.proofs.Cases.{both}
 use Rattle.tlv.proofs.Bounds.{length_got, head_tlv}
 use Rattle.tlv.proofs.Rows.{tlvs_done, tlvs_tlv}
+use Rattle.std.specs.Prelude.{Option, Some, None}
+use Rattle.rules.specs.declared.Tlv.{Tlv}
+use Rattle.rules.specs.Built.{some_tlv}
 
-abbrev LengthTo : List ℕ → ℕ → ℕ → Length → Type 0
-LengthTo s at p (Got n next) = next ≤ p → length_at s at p ≡ Got n next
-LengthTo s at p Bad = Unit {0}
+abbrev LengthTo : List ℕ → ℕ → ℕ → Option (ℕ × ℕ) → Type 0
+LengthTo s at p (Some q) = q.1 ≤ p → length_at s at p ≡ Some (q.0, q.1)
+LengthTo s at p None = Unit {0}
 
 length_to : (s : List ℕ) (at end p : ℕ) → LengthTo s at p (length_at s at end)
 unfolding length_at
@@ -31,22 +30,22 @@ length_to s at end p =
     both (eqb (get_or s at 0) 130) (λ t4. both (ltb (end - at) 3) (λ t5. simp (t, t2, t3, t4, t5) tt) (λ t5. simp (t, t2, t3, t4, t5) (λ h. simp (lt-leb p at (omega arith), le-ltb (p - at) 3 (omega arith)))))
     (λ t4. simp (t, t2, t3, t4) tt))))
 
-abbrev HeadTo : List ℕ → ℕ → ℕ → Head → Type 0
-HeadTo s at p (Tlv tag start stop) = stop ≤ p → head_at s at p ≡ Tlv tag start stop
-HeadTo s at p Past = Unit {0}
+abbrev HeadTo : List ℕ → ℕ → ℕ → Option Tlv → Type 0
+HeadTo s at p (Some h) = h.stop ≤ p → head_at s at p ≡ some_tlv h.tag h.start h.stop
+HeadTo s at p None = Unit {0}
 
-head_of_to : (s : List ℕ) (at end p : ℕ) (l : Length) → length_at s (at + 1) end ≡ l → LengthTo s (at + 1) p l → HeadTo s at p (head_of (get_or s at 0) end l)
+head_of_to : (s : List ℕ) (at end p : ℕ) (l : Option (ℕ × ℕ)) → length_at s (at + 1) end ≡ l → LengthTo s (at + 1) p l → HeadTo s at p (head_of (get_or s at 0) end l)
 unfolding head_at head_of
-head_of_to s at end p (Got n next) e to =
+head_of_to s at end p (Some q) e to =
     let b = length_got s (at + 1) end e in
-    both (ltb (end - next) n) (λ t. simp t tt) (λ t. simp t (λ h. simp (lt-leb p at (omega arith), to (omega arith), le-ltb (p - next) n (omega arith))))
-head_of_to s at end p Bad e to = tt
+    both (ltb (end - q.1) q.0) (λ t. simp t tt) (λ t. simp t (λ h. simp (lt-leb p at (omega arith), to (omega arith), le-ltb (p - q.1) q.0 (omega arith))))
+head_of_to s at end p None e to = tt
 
 head_to : (s : List ℕ) (at end p : ℕ) → HeadTo s at p (head_at s at end)
 unfolding head_at
 head_to s at end p = both (leb end at) (λ t. simp t tt) (λ t. simp t (head_of_to s at end p (length_at s (at + 1) end) refl (length_to s (at + 1) end p)))
 
-pub head_front : (s : List ℕ) (at end p : ℕ) {tag start stop : ℕ} → head_at s at end ≡ Tlv tag start stop → stop ≤ p → head_at s at p ≡ Tlv tag start stop
+pub head_front : (s : List ℕ) (at end p : ℕ) {v : Tlv} → head_at s at end ≡ Some v → v.stop ≤ p → head_at s at p ≡ Some v
 head_front s at end p e = subst (HeadTo s at p) e (head_to s at end p)
 
 -- so many of those that there is room for are left, after the TLVs with a tag from a place on
@@ -65,14 +64,14 @@ module _ (counted : ℕ) (s : List ℕ) (gap from room : ℕ) where
         let z : at + gap ≡ at = omega arith in
         ap (λ n. count counted (tlvs n s from (at + gap))) (sym g) ∙ ap (λ p. count counted (tlvs gap s from p)) z ∙ inv.1 at (omega arith) ∙ simp (tlvs_done gap s at at (omega arith))
 
-    pub counted_on : (end : ℕ) {tag start stop : ℕ} → head_at s (at + gap) end ≡ Tlv tag start stop → (tag % 128 ≡ counted → 0 < left)
-        → (less : ℕ) → less ≡ cond (eqb (plain tag) counted) (left - 1) left → Counted counted s gap from room stop less
+    pub counted_on : (end : ℕ) {v : Tlv} → head_at s (at + gap) end ≡ Some v → (v.tag % 128 ≡ counted → 0 < left)
+        → (less : ℕ) → less ≡ cond (eqb (plain v.tag) counted) (left - 1) left → Counted counted s gap from room v.stop less
     unfolding Counted count_in plain
-    counted_on end {tag} {start} {stop} e some less f =
+    counted_on end {v} e some less f =
         let b = head_tlv s (at + gap) end e in
-        both (eqb (tag % 128) counted)
+        both (eqb (v.tag % 128) counted)
         (λ t. let l : less ≡ left - 1 = f ∙ simp t in
-        let x = some (eqb-true (tag % 128) counted t) in
+        let x = some (eqb-true (v.tag % 128) counted t) in
         let i = inv.0 in
         let z : room - less ≡ room - left + 1 = omega arith in (
           omega arith,
@@ -92,8 +91,8 @@ module _ (counted : ℕ) (s : List ℕ) (from room at left : ℕ) (inv : Counted
   pub row_counted_here : count counted (tlvs 0 s from at) ≡ room - left
   row_counted_here = sym (ap (λ p. count counted (tlvs 0 s from p)) here) ∙ counted_here counted s 0 from room at left inv refl
 
-  pub row_counted_on : (end : ℕ) {tag start stop : ℕ} → head_at s at end ≡ Tlv tag start stop → (tag % 128 ≡ counted → 0 < left)
-      → (less : ℕ) → less ≡ cond (eqb (plain tag) counted) (left - 1) left → Counted counted s 0 from room stop less
-  row_counted_on end {tag} {start} {stop} e =
-      let e' : head_at s (at + 0) end ≡ Tlv tag start stop = rw here e in
+  pub row_counted_on : (end : ℕ) {v : Tlv} → head_at s at end ≡ Some v → (v.tag % 128 ≡ counted → 0 < left)
+      → (less : ℕ) → less ≡ cond (eqb (plain v.tag) counted) (left - 1) left → Counted counted s 0 from room v.stop less
+  row_counted_on end {v} e =
+      let e' : head_at s (at + 0) end ≡ Some v = rw here e in
       counted_on counted s 0 from room at left inv end e'

@@ -9,38 +9,36 @@ use lib.Dec.{eqb, ltb}
 use borrow.Author.Tests.{lt-ltb, le-ltb, eq-eqb, ne_eqb}
 use Rattle.rules.specs.declared.Body.{Body}
 use Rattle.rules.specs.declared.Body.TheVariants.{Inner, Leaf, Short}
-use Rattle.rules.specs.declared.Head.{Head}
-use Rattle.rules.specs.declared.Head.TheVariants.{Tlv, Past}
-use Rattle.rules.specs.declared.Spot.{Spot}
-use Rattle.rules.specs.declared.Spot.TheVariants.{After, Cut}
 use Rattle.rules.specs.Bytes.{among}
 use Rattle.rules.specs.Tlv.{head_at}
 use Rattle.rules.specs.Tlvs.{tlvs, plain, count}
 use Rattle.rules.specs.Grammar.{beyond}
 use Rattle.rules.specs.Shape.{attribute, body_of}
 use Rattle.rules.specs.Forms.{bad_reference, is_marked, long_reference, odd_head, several, odd_modifier, beyond_at}
+use Rattle.std.specs.Prelude.{Option, Some, None}
+use Rattle.rules.specs.declared.Tlv.{Tlv}
 
-module _ (size : ℕ) (m : Spot) where
-  pub bad_cut : m ≡ Cut → true ≡ bad_reference size m
+module _ (size : ℕ) (m : Option ℕ) where
+  pub bad_cut : m ≡ None → true ≡ bad_reference size m
   unfolding bad_reference
   bad_cut e = simp e
 
-  pub bad_after : (n : ℕ) → m ≡ After n → eqb size 1 ≡ bad_reference size m
+  pub bad_after : (n : ℕ) → m ≡ Some n → eqb size 1 ≡ bad_reference size m
   unfolding bad_reference
   bad_after n e = simp e
 
-  pub long_cut : m ≡ Cut → false ≡ long_reference size m
+  pub long_cut : m ≡ None → false ≡ long_reference size m
   unfolding long_reference
   long_cut e = simp e
 
-  module _ (n : ℕ) (e : m ≡ After n) where
-    pub long_page : 32 < n → true ≡ long_reference size m
+  module _ (n : ℕ) (e : m ≡ Some n) where
+    pub long_page : 32 < n → ltb 32 n ≡ long_reference size m
     unfolding long_reference
     long_page h = simp (e, lt-ltb 32 n h)
 
-    pub long_none : n ≤ 32 → size ≤ n → false ≡ long_reference size m
+    pub long_none : n ≤ 32 → size ≤ n → ltb n size ≡ long_reference size m
     unfolding long_reference
-    long_none h g = simp (e, le-ltb 32 n h, le-ltb 32 (size - (n + 1)) (omega arith))
+    long_none h g = simp (e, le-ltb n size g, le-ltb 32 n h, le-ltb 32 (size - (n + 1)) (omega arith))
 
     pub long_anchor : n ≤ 32 → ltb 32 (size - (n + 1)) ≡ long_reference size m
     unfolding long_reference
@@ -48,30 +46,30 @@ module _ (size : ℕ) (m : Spot) where
 
 pub ruleset reference_laws = (bad_cut, bad_after, long_cut, long_page, long_none, long_anchor)
 
-module _ (m : Spot) where
-  pub marked_cut : m ≡ Cut → false ≡ is_marked m
+module _ (m : Option ℕ) where
+  pub marked_cut : m ≡ None → false ≡ is_marked m
   unfolding is_marked
   marked_cut e = simp e
 
-  pub marked_after : (n : ℕ) → m ≡ After n → true ≡ is_marked m
+  pub marked_after : (n : ℕ) → m ≡ Some n → true ≡ is_marked m
   unfolding is_marked
   marked_after n e = simp e
 
 pub ruleset marked_laws = (marked_cut, marked_after)
 
-module _ (stop : ℕ) (h : Head) where
-  pub head_past : h ≡ Past → false ≡ odd_head stop h
+module _ (stop : ℕ) (h : Option Tlv) where
+  pub head_past : h ≡ None → false ≡ odd_head stop h
   unfolding odd_head
   head_past e = simp e
 
-  module _ (t start p : ℕ) (e : h ≡ Tlv t start p) where
-    pub head_reference : t ≡ 0x0C → ltb p stop ≡ odd_head stop h
+  module _ (v : Tlv) (e : h ≡ Some v) where
+    pub head_reference : v.tag ≡ 0x0C → ltb v.stop stop ≡ odd_head stop h
     unfolding odd_head
-    head_reference x = simp (e, eq-eqb t 0x0C x)
+    head_reference x = simp (e, eq-eqb v.tag 0x0C x)
 
-    pub head_other : (t ≡ 0x0C → ⊥) → (b : Bool) → b ≡ among (0x0D ∷ 0x13 ∷ 0x93 ∷ []) t → b ≡ odd_head stop h
+    pub head_other : (v.tag ≡ 0x0C → ⊥) → (b : Bool) → b ≡ among (0x0D ∷ 0x13 ∷ 0x93 ∷ []) v.tag → b ≡ odd_head stop h
     unfolding odd_head
-    head_other x b a = a ∙ simp (e, ne_eqb t 0x0C x)
+    head_other x b a = a ∙ simp (e, ne_eqb v.tag 0x0C x)
 
 pub ruleset head_laws = (head_past, head_reference, head_other)
 
@@ -106,7 +104,7 @@ module _ (s : List ℕ) (within tag start stop : ℕ) where
     beyond_tag x = simp (sym e ∙ x)
 
     module _ (x : b ≡ false) where
-      pub beyond_reference : tag ≡ 0x12 → (h : Head) → h ≡ head_at s start stop → (r : Bool) → r ≡ odd_head stop h → r ≡ beyond_at s within tag start stop
+      pub beyond_reference : tag ≡ 0x12 → (h : Option Tlv) → h ≡ head_at s start stop → (r : Bool) → r ≡ odd_head stop h → r ≡ beyond_at s within tag start stop
       unfolding beyond_at
       beyond_reference t h f r g = g ∙ simp (f, sym e ∙ x, eq-eqb tag 0x12 t)
 

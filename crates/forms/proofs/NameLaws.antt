@@ -1,16 +1,14 @@
 -- The ways through the functions on names and counts, in the shape of their needs.
 -- Assumes nothing.
+use Rattle.rules.specs.Built.{some_tlv}
 use Prim.Native.Nat.{ℕ, ◌+◌, ◌-◌, ◌≤◌, ◌<◌, ◌%◌}
 use mathlib.Core.Bool.{Bool, true, false}
 use mathlib.Core.List.{List}
 use mathlib.Core.Path.{◌≡◌, sym, ap, ◌∙◌}
 use native.Mathlib.Omega.{arith}
 use lib.ListN.{length, take, drop}
-use lib.Dec.{leb}
+use lib.Dec.{leb, ltb}
 use borrow.Author.Tests.{lt-ltb, le-ltb, le-leb, lt-leb, eq-eqb, ne_eqb}
-use Rattle.rules.specs.declared.Head.{Head}
-use Rattle.rules.specs.declared.Head.TheVariants.{Tlv, Past}
-use Rattle.rules.specs.declared.Spot.{Spot}
 use Rattle.rules.specs.Bytes.{part}
 use Rattle.rules.specs.Tlv.{head_at}
 use Rattle.rules.specs.Tlvs.{tlvs, plain, count}
@@ -22,9 +20,11 @@ use Rattle.rules.specs.Forms.{bad_reference, out_of_place, taken_in, is_marked, 
 use Rattle.leaf.proofs.Cases.{both, tests}
 use Rattle.tlv.proofs.Bounds.{head_tlv}
 use Rattle.tlv.proofs.Rows.{row_done, row_tlv, row_past}
-use Rattle.page.specs.declared.Span.{Span}
+use Rattle.rules.specs.declared.Span.{Span}
 use Rattle.page.specs.Span.{span_of}
 use Rattle.page.proofs.Spans.{page_within, span_row, span_within}
+use Rattle.std.specs.Prelude.{Option, None, Some}
+use Rattle.rules.specs.declared.Tlv.{Tlv}
 
 module _ (s : List ℕ) (r : Span) (is : r ≡ span_of s (page_head s)) where
   pub row_within : r.end ≤ length s
@@ -44,45 +44,45 @@ pub ruleset row_laws = (row_within, row_count, row_taken)
 
 -- `w` is what the whole row comes to, and `inv` that the rest of it comes to the same
 module _ (s name : List ℕ) (place at end : ℕ) (w : Bool) (inv : taken_in s name place (tlvs 0 s at end) ≡ w) where
-  pub taken_done : end ≤ at → false ≡ w
-  unfolding taken_in
-  taken_done h = sym (simp (row_done s at end h)) ∙ inv
-
-  module _ (h : at < end) (r : Head) (is : r ≡ head_at s at end) where
-    pub taken_past : r ≡ Past → false ≡ w
+  module _ (r : Option Tlv) (is : r ≡ head_at s at end) where
+    pub taken_past : r ≡ None → false ≡ w
     unfolding taken_in
-    taken_past x = sym (simp (row_past s at end h (sym is ∙ x))) ∙ inv
+    taken_past x =
+        both (ltb at end) (λ t. sym (simp (row_past s at end (omega tests) (sym is ∙ x))) ∙ inv) (λ t. sym (simp (row_done s at end (omega tests))) ∙ inv)
 
-    module _ (tag start stop : ℕ) (x : r ≡ Tlv tag start stop) where
-      pub taken_less : end - stop < end - at
+    module _ (v : Tlv) (x : r ≡ Some v) where
+      h : at < end
+      h = let b = head_tlv s at end (sym is ∙ x) in omega arith
+
+      pub taken_less : end - v.stop < end - at
       taken_less = let b = head_tlv s at end (sym is ∙ x) in omega arith
 
-      pub taken_within : end ≤ length s → stop ≤ length s
+      pub taken_within : end ≤ length s → v.stop ≤ length s
       taken_within g = let b = head_tlv s at end (sym is ∙ x) in omega arith
 
-      pub taken_later : place < stop → false ≡ w
+      pub taken_later : place < v.stop → false ≡ w
       unfolding taken_in
-      taken_later y = sym (simp (row_tlv s at end h (sym is ∙ x), lt-ltb place stop y)) ∙ inv
+      taken_later y = sym (simp (row_tlv s at end h (sym is ∙ x), lt-ltb place v.stop y)) ∙ inv
 
-      module _ (y : stop ≤ place) where
-        pub taken_other : (tag % 128 ≡ 0x0A → ⊥) → taken_in s name place (tlvs 0 s stop end) ≡ w
+      module _ (y : v.stop ≤ place) where
+        pub taken_other : (v.tag % 128 ≡ 0x0A → ⊥) → taken_in s name place (tlvs 0 s v.stop end) ≡ w
         unfolding taken_in plain
-        taken_other u = sym (simp (row_tlv s at end h (sym is ∙ x), le-ltb place stop y, ne_eqb (tag % 128) 0x0A u)) ∙ inv
+        taken_other u = sym (simp (row_tlv s at end h (sym is ∙ x), le-ltb place v.stop y, ne_eqb (v.tag % 128) 0x0A u)) ∙ inv
 
-        module _ (u : tag % 128 ≡ 0x0A) (p : ℕ) (q : p ≡ content_at s tag start stop) (b : Bool) (f : b ≡ holds s name (part_in 0x0B (tlvs 0 s p stop))) where
-          named : holds s name (anchor_in s (Tlv tag start stop)) ≡ b
+        module _ (u : v.tag % 128 ≡ 0x0A) (p : ℕ) (q : p ≡ content_at s v.tag v.start v.stop) (b : Bool) (f : b ≡ holds s name (part_in 0x0B (tlvs 0 s p v.stop))) where
+          named : holds s name (anchor_in s (some_tlv v.tag v.start v.stop)) ≡ b
           unfolding anchor_in row_of
           named = sym (rw q at f)
 
           pub taken_here : b ≡ true → true ≡ w
           unfolding taken_in plain
-          taken_here z = sym (simp (row_tlv s at end h (sym is ∙ x), le-ltb place stop y, eq-eqb (tag % 128) 0x0A u, named ∙ z)) ∙ inv
+          taken_here z = sym (simp (row_tlv s at end h (sym is ∙ x), le-ltb place v.stop y, eq-eqb (v.tag % 128) 0x0A u, named ∙ z)) ∙ inv
 
-          pub taken_on_lem : b ≡ false → taken_in s name place (tlvs 0 s stop end) ≡ w
+          pub taken_on_lem : b ≡ false → taken_in s name place (tlvs 0 s v.stop end) ≡ w
           unfolding taken_in plain
-          taken_on_lem z = sym (simp (row_tlv s at end h (sym is ∙ x), le-ltb place stop y, eq-eqb (tag % 128) 0x0A u, named ∙ z)) ∙ inv
+          taken_on_lem z = sym (simp (row_tlv s at end h (sym is ∙ x), le-ltb place v.stop y, eq-eqb (v.tag % 128) 0x0A u, named ∙ z)) ∙ inv
 
-pub ruleset taken_laws = (taken_done, taken_past, taken_less, taken_within, taken_later, taken_other, taken_here, taken_on_lem)
+pub ruleset taken_laws = (taken_past, taken_less, taken_within, taken_later, taken_other, taken_here, taken_on_lem)
 
 module _ (s : List ℕ) (last cell tag start stop : ℕ) (b : Bool) (e : b ≡ misplaced last cell) where
   pub place_wrong : b ≡ true → true ≡ out_of_place s last cell tag start stop
@@ -90,7 +90,7 @@ module _ (s : List ℕ) (last cell tag start stop : ℕ) (b : Bool) (e : b ≡ m
   place_wrong x = simp (sym e ∙ x)
 
   module _ (x : b ≡ false) where
-    pub place_reference : tag ≡ 0x0C → (m : Spot) → m ≡ mark (take (stop - start) (drop start s)) → (r : Bool) → r ≡ bad_reference (stop - start) m → r ≡ out_of_place s last cell tag start stop
+    pub place_reference : tag ≡ 0x0C → (m : Option ℕ) → m ≡ mark (take (stop - start) (drop start s)) → (r : Bool) → r ≡ bad_reference (stop - start) m → r ≡ out_of_place s last cell tag start stop
     unfolding out_of_place part
     place_reference t m f r g = g ∙ simp (f, sym e ∙ x, eq-eqb tag 0x0C t)
 
@@ -105,7 +105,7 @@ module _ (s : List ℕ) (at tag start stop : ℕ) where
   unfolding bad_anchor
   anchor_none t = simp (ne_eqb tag 0x0B t)
 
-  module _ (t : tag ≡ 0x0B) (m : Spot) (f : m ≡ mark (take (stop - start) (drop start s))) (b : Bool) (e : b ≡ is_marked m) where
+  module _ (t : tag ≡ 0x0B) (m : Option ℕ) (f : m ≡ mark (take (stop - start) (drop start s))) (b : Bool) (e : b ≡ is_marked m) where
     pub anchor_marked : b ≡ true → true ≡ bad_anchor s at tag start stop
     unfolding bad_anchor part
     anchor_marked x = simp (eq-eqb tag 0x0B t, sym f, sym e ∙ x)
@@ -154,7 +154,7 @@ module _ (s : List ℕ) (within from at tag start stop l : ℕ) (g : l ≡ size_
   big_size x = simp (sym sized ∙ x)
 
   module _ (x : b ≡ false) where
-    pub big_reference : tag ≡ 0x0C → (m : Spot) → m ≡ mark (take (stop - start) (drop start s)) → (r : Bool) → r ≡ long_reference (stop - start) m → r ≡ too_big s within from at tag start stop
+    pub big_reference : tag ≡ 0x0C → (m : Option ℕ) → m ≡ mark (take (stop - start) (drop start s)) → (r : Bool) → r ≡ long_reference (stop - start) m → r ≡ too_big s within from at tag start stop
     unfolding too_big part
     big_reference t m f r q = q ∙ simp (f, sym sized ∙ x, eq-eqb tag 0x0C t)
 

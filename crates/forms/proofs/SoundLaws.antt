@@ -1,13 +1,12 @@
 -- Where `is_sound` answers true each class from 4 on sees the same, in the shape of its needs.
 -- Assumes nothing.
 use Prim.Native.Nat.{ℕ, ◌-◌}
-use mathlib.Core.Bool.{Bool, true, false, not, false≢true}
+use mathlib.Core.Bool.{Bool, true, false, not}
 use mathlib.Core.List.{List}
 use mathlib.Core.Path.{◌≡◌, refl, sym, ◌∙◌}
 use lib.ListN.{take, drop}
 use lib.Dec.{eqb}
 use borrow.Author.Tests.{le-ltb, eq-eqb, ne_eqb, eqb-true}
-use Rattle.rules.specs.declared.Spot.{Spot}
 use Rattle.rules.specs.Bytes.{part}
 use Rattle.rules.specs.Pieces.{pieces}
 use Rattle.rules.specs.Shape.{body_of}
@@ -16,9 +15,7 @@ use Rattle.rules.specs.Forms.{out_of_place, size_of, out_of_size, long_reference
 use Rattle.rules.specs.Loader.{look, judged_look}
 use Rattle.leaf.proofs.Cases.{both}
 use Rattle.forms.specs.Sound.{Seen}
-
-pub never : {A : Type 0} → false ≡ true → A
-never e = absurd (false≢true e)
+use Rattle.std.specs.Prelude.{Option}
 
 pub is_no : (b : Bool) → not b ≡ true → b ≡ false
 is_no true e = cc
@@ -37,7 +34,7 @@ module _ (s : List ℕ) (within last cell at tag start stop : ℕ) (o : Bool) (o
       both (eqb class 6) (λ t3. simp (le-ltb class 4 c, t, t2, t3, big from (six (eqb-true class 6 t3)), sym ye ∙ yx)) (λ t3.
       both (eqb class 7) (λ t4. simp (le-ltb class 4 c, t, t2, t3, t4, sym ye ∙ yx)) (λ t4. simp (le-ltb class 4 c, t, t2, t3, t4, sym ye ∙ yx)))))
 
-  pub sound_reference : tag ≡ 0x0C → (m : Spot) → m ≡ mark (take (stop - start) (drop start s)) → (r : Bool) → r ≡ long_reference (stop - start) m
+  pub sound_reference : tag ≡ 0x0C → (m : Option ℕ) → m ≡ mark (take (stop - start) (drop start s)) → (r : Bool) → r ≡ long_reference (stop - start) m
       → not r ≡ true → Seen s within last cell at tag start stop (judged_look (body_of s within tag start stop))
   unfolding too_big part
   sound_reference t m f r g n =

@@ -7,13 +7,13 @@ use mathlib.Core.Path.{◌≡◌, sym, ◌∙◌}
 use native.Mathlib.Omega.{arith}
 use lib.Dec.{eqb}
 use borrow.Author.Tests.{eq-eqb, ne_eqb}
-use Rattle.rules.specs.declared.Head.{Head}
-use Rattle.rules.specs.declared.Head.TheVariants.{Tlv, Past}
 use Rattle.rules.specs.Tlv.{head_at}
 use Rattle.rules.specs.Tlvs.{tlvs}
 use Rattle.rules.specs.Grammar.{cell_of, need_of, gap_of, met_in, met, lacks}
 use Rattle.tlv.proofs.Bounds.{head_tlv}
 use Rattle.tlv.proofs.Rows.{tlvs_done, tlvs_tlv, tlvs_past}
+use Rattle.std.specs.Prelude.{Option, None, Some}
+use Rattle.rules.specs.declared.Tlv.{Tlv}
 
 module _ (s : List ℕ) (kind need from end : ℕ) where
   pub m_nothing : need ≡ 0 → true ≡ met kind need end (tlvs (gap_of kind) s from end)
@@ -34,32 +34,32 @@ module _ (s : List ℕ) (kind need end gap at : ℕ) (w : Bool) (inv : met_in ki
   unfolding met_in
   m_done h e = sym (simp (tlvs_done gap s at end h, ne_eqb need 2 e)) ∙ inv
 
-  module _ (more : gap < end - at) (h : Head) (is : h ≡ head_at s (at + gap) end) where
-    pub m_past : h ≡ Past → true ≡ w
+  module _ (more : gap < end - at) (h : Option Tlv) (is : h ≡ head_at s (at + gap) end) where
+    pub m_past : h ≡ None → true ≡ w
     unfolding met_in
     m_past e = sym (simp (tlvs_past gap s at end more (sym is ∙ e))) ∙ inv
 
-    module _ (t start stop : ℕ) (e : h ≡ Tlv t start stop) where
-      pub m_less : end - stop < end - at
+    module _ (v : Tlv) (e : h ≡ Some v) where
+      pub m_less : end - v.stop < end - at
       m_less = let b = head_tlv s (at + gap) end (sym is ∙ e) in omega arith
 
-      pub m_within : stop ≤ end
+      pub m_within : v.stop ≤ end
       m_within = let b = head_tlv s (at + gap) end (sym is ∙ e) in omega arith
 
       pub m_one : need ≡ 1 → true ≡ w
       unfolding met_in
       m_one o = sym (simp (tlvs_tlv gap s at end more (sym is ∙ e), eq-eqb need 1 o)) ∙ inv
 
-      module _ (o : need ≡ 1 → ⊥) (cell : ℕ) (c : cell ≡ cell_of kind t) where
+      module _ (o : need ≡ 1 → ⊥) (cell : ℕ) (c : cell ≡ cell_of kind v.tag) where
         pub m_hit : cell ≡ need → true ≡ w
         unfolding met_in
-        m_hit x = sym (simp (tlvs_tlv gap s at end more (sym is ∙ e), ne_eqb need 1 o, eq-eqb (cell_of kind t) need (sym c ∙ x))) ∙ inv
+        m_hit x = sym (simp (tlvs_tlv gap s at end more (sym is ∙ e), ne_eqb need 1 o, eq-eqb (cell_of kind v.tag) need (sym c ∙ x))) ∙ inv
 
-        pub m_miss : (cell ≡ need → ⊥) → met_in kind need end (tlvs gap s stop end) ≡ w
+        pub m_miss : (cell ≡ need → ⊥) → met_in kind need end (tlvs gap s v.stop end) ≡ w
         unfolding met_in
-        m_miss x = sym (simp (tlvs_tlv gap s at end more (sym is ∙ e), ne_eqb need 1 o, ne_eqb (cell_of kind t) need (λ y. x (c ∙ y)))) ∙ inv
+        m_miss x = sym (simp (tlvs_tlv gap s at end more (sym is ∙ e), ne_eqb need 1 o, ne_eqb (cell_of kind v.tag) need (λ y. x (c ∙ y)))) ∙ inv
 
-pub ruleset met_laws = (m_nothing, m_start, m_done, m_past, m_less, m_within, m_one, m_hit, m_miss)
+pub ruleset met_laws = (m_nothing, m_start, m_fill, m_done, m_past, m_less, m_within, m_one, m_hit, m_miss)
 
 module _ (s : List ℕ) (kind from end n : ℕ) (e : n ≡ need_of kind 0) (b : Bool) (f : b ≡ met kind n end (tlvs (gap_of kind) s from end)) where
   pub l_first : b ≡ false → true ≡ lacks kind end (tlvs (gap_of kind) s from end)

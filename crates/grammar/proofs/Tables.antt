@@ -3,15 +3,16 @@
 use Prim.Native.Nat.{ℕ, ◌+◌, ◌-◌, ◌*◌, ◌/◌, ◌%◌, ◌≤◌, ◌<◌}
 use mathlib.Core.Bool.{false}
 use mathlib.Core.List.{List, [], ◌++◌}
+use mathlib.Core.Logic.{◌⊎◌, inl, inr}
 use mathlib.Core.Path.{◌≡◌, sym, ap, ◌∙◌}
 use native.Mathlib.Omega.{arith}
 use native.Mathlib.Nat.{le_trans}
 use lib.Dec.{T, eqb, ltb, leb, eqb→eq, ltb→lt, leb→le}
 use lib.ListN.{length, get_or, get_or-eq_default}
-use borrow.Author.Tests.{lt-ltb, le-ltb, eqb-true, eqb-false}
+use borrow.Author.Tests.{lt-ltb, le-ltb, ltb-true, eqb-true, eqb-false}
 use Rattle.rules.specs.Bytes.{among, hex_to, hex}
 use Rattle.rules.specs.Grammar.{grammar, cell_in, cell_of, asks, needs_in, need_of, beyonds, beyond}
-use Rattle.leaf.proofs.Cases.{both}
+use Rattle.leaf.proofs.Cases.{both, tests}
 use Rattle.grammar.specs.Columns.{columns, slot_of, column_in, column_of}
 use Rattle.grammar.proofs.Every.{every, every_at, every_in, agree, agree_eq}
 
@@ -162,14 +163,17 @@ pub cell_none : (kind t : ℕ) → kinds ≤ kind → 0 ≡ cell_of kind t
 unfolding cell_of cell_in grammar
 cell_none kind t h = sym (simp (get_or-eq_default grammar [] {n = kind} h))
 
-pub beyond_low : (kind t : ℕ) → kind < 2 → false ≡ beyond kind t
+beyond_low : (kind t : ℕ) → kind < 2 → false ≡ beyond kind t
 unfolding beyonds beyond among
 beyond_low kind t h =
     both (eqb kind 0) (λ e. rw (eqb-true kind 0 e)) (λ e. let d = eqb-false kind 0 e in let f : kind ≡ 1 = omega arith in rw f)
 
-pub beyond_high : (kind t : ℕ) → 4 < kind → false ≡ beyond kind t
+beyond_high : (kind t : ℕ) → 4 < kind → false ≡ beyond kind t
 unfolding beyond beyonds among
 beyond_high kind t h = sym (simp (get_or-eq_default beyonds [] {n = kind} h))
+
+pub beyond_none : (kind t : ℕ) → (kind ≡ 2 → ⊥) → (kind ≡ 3 → ⊥) → (kind ≡ 4 → ⊥) → false ≡ beyond kind t
+beyond_none kind t a b c = both (ltb kind 2) (λ e. beyond_low kind t (ltb-true kind 2 e)) (λ e. beyond_high kind t (omega tests))
 
 pub need_right : (kind k : ℕ) → kind < kinds → k < 2 → get_or asked (kind * 2 + k) 0 ≡ need_of kind k
 unfolding hex hex_to asked grammar asks needs_in need_of
@@ -177,13 +181,10 @@ need_right kind k g h =
     eqb→eq (get_or asked (kind * 2 + k) 0) (need_of kind k)
     (every_in kinds 2 (λ kind k. eqb (get_or asked (kind * 2 + k) 0) (need_of kind k)) tt kind k g h)
 
-pub need_none : (kind k : ℕ) → kinds ≤ kind → 0 ≡ need_of kind k
-unfolding need_of needs_in grammar
-need_none kind k h = sym (simp (get_or-eq_default grammar [] {n = kind} h))
-
--- no kind asks more than two
-pub need_two : (kind k : ℕ) → kind < kinds → 1 < k → 0 ≡ need_of kind k
+-- past the last kind, and no kind asks more than two
+pub need_none : (kind k : ℕ) → ((kind < kinds) × (2 ≤ k)) ⊎ (kinds ≤ kind) → 0 ≡ need_of kind k
 unfolding grammar asks needs_in need_of
-need_two kind k g h =
+need_none kind k (inl h) =
     sym (get_or-eq_default (needs_in 1 (get_or grammar kind [])) 0 {n = k}
-    (le_trans (leb→le (length (needs_in 1 (get_or grammar kind []))) 2 (every_at kinds (λ kind. leb (length (needs_in 1 (get_or grammar kind []))) 2) tt kind g)) h))
+    (le_trans (leb→le (length (needs_in 1 (get_or grammar kind []))) 2 (every_at kinds (λ kind. leb (length (needs_in 1 (get_or grammar kind []))) 2) tt kind h.0)) h.1))
+need_none kind k (inr h) = sym (simp (get_or-eq_default grammar [] {n = kind} h))

@@ -7,12 +7,12 @@ ghost use Rattle.rules.specs.Tlvs.{tlvs};
 ghost use Rattle.rules.specs.Grammar.{cell_of, need_of, gap_of};
 ghost use Rattle.rules.specs.Grammar.{beyond as Grammar·beyond, misplaced as Grammar·misplaced, met as Grammar·met, lacks as Grammar·lacks};
 
-use rules::Head;
-
 // Kinds of containers, as the rules number them.
 pub const PAGE: usize = 1;
 
 pub const UNIT: usize = 2;
+
+const MODIFIER: usize = 3;
 
 pub const ACTION: usize = 4;
 
@@ -81,20 +81,16 @@ const BEYONDS: [u8; 32] =
     *b"\x00\x00\x00\x00\x00\x00\x00\x00\x00\x00\x00\x00\x00\x00\x02\x00\x00\x00\x00\x00\x04\x01\x01\x00\x00\x00\x04\x05\x00\x01\x05\x05";
 
 // The slot of a tag without attributes among the columns.
+#[tactic(auto, using(crate::proofs::Tables::slot_laws))]
 fn slot_of(tag: u8) -> usize
     ensures value { result ≡ slot_of tag }
     ensures upper_bound { result < 35 }
 {
-    if tag < 0x17 {
-        return leaf::wide(tag);
+    match tag {
+        0..=0x16 => leaf::wide(tag),
+        0x40..=0x4B => leaf::wide(tag - 0x29),
+        _ => 0,
     }
-    if tag < 0x40 {
-        return 0;
-    }
-    if tag < 0x4C {
-        return leaf::wide(tag - 0x29);
-    }
-    0
 }
 
 // The column of a tag: tags of which the rules say the same have the same, and unknown tags have 0.
@@ -104,13 +100,13 @@ pub fn column_of(tag: u8) -> usize
 {
     let i = slot_of(tag % 128);
     let c = COLUMNS[i];
-    if c < 64 {
-        if tag < 0x80 {
-            return leaf::wide(c);
-        }
-        return 0;
+    if 64 <= c {
+        leaf::wide(c - 64)
+    } else if tag < 0x80 {
+        leaf::wide(c)
+    } else {
+        0
     }
-    leaf::wide(c - 64)
 }
 
 // Where a tag stands among the parts of a kind of container.
@@ -122,79 +118,59 @@ pub fn cell_of(kind: usize, tag: u8) -> u8
     }
     let i = kind % 4 * WIDTH + column_of(tag);
     if kind < 4 {
-        return CELLS_0[i];
+        CELLS_0[i]
+    } else if kind < 8 {
+        CELLS_4[i]
+    } else if kind < 12 {
+        CELLS_8[i]
+    } else {
+        CELLS_12[i]
     }
-    if kind < 8 {
-        return CELLS_4[i];
-    }
-    if kind < 12 {
-        return CELLS_8[i];
-    }
-    CELLS_12[i]
 }
 
 // What a kind asks of its TLVs, first and second.
 pub fn need_of(kind: usize, k: usize) -> u8
     ensures { result ≡ need_of kind k }
 {
-    if KINDS <= kind {
-        return 0;
+    if kind < KINDS && k < 2 {
+        NEEDS[kind * 2 + k]
+    } else {
+        0
     }
-    if 1 < k {
-        return 0;
-    }
-    let i = kind * 2 + k;
-    NEEDS[i]
 }
 
 // A tag is beyond the base in a kind of container.
 pub fn beyond(kind: usize, tag: u8) -> bool
     ensures { result ≡ Grammar·beyond kind tag }
 {
-    if kind < UNIT {
-        return false;
-    }
-    if ACTION < kind {
-        return false;
-    }
     let c = column_of(tag);
     let bits = BEYONDS[c];
-    if kind == UNIT {
-        return bits % 2 == 1;
+    match kind {
+        UNIT => bits % 2 == 1,
+        MODIFIER => bits / 2 % 2 == 1,
+        ACTION => bits / 4 == 1,
+        _ => false,
     }
-    if kind == ACTION {
-        return bits / 4 == 1;
-    }
-    bits / 2 % 2 == 1
 }
 
 // The bytes before each TLV of a container: the numbers of '40'.
+#[tactic(auto, unfolding(rules::specs::Grammar::gap_of))]
 pub fn gap_of(kind: usize) -> usize
     ensures { result ≡ gap_of kind }
 {
-    if kind == SETTING {
-        return 1;
-    }
-    0
+    if kind == SETTING { 1 } else { 0 }
 }
 
 // A tag that no part names, or of an earlier part than the last one, or again where one may stand.
+#[tactic(auto, unfolding(rules::specs::Grammar::misplaced))]
 pub fn misplaced(last: u8, cell: u8) -> bool
     ensures { result ≡ Grammar·misplaced last cell }
 {
-    if cell == 0 {
-        return true;
-    }
-    if cell < last {
-        return true;
-    }
-    if cell == last {
-        return cell % 16 < 3;
-    }
-    false
+    cell == 0 || cell < last || cell == last && cell % 16 < 3
 }
 
 // The TLVs of a container have what its kind asks.
+#[tactic(auto, using(crate::proofs::RowLaws::met_laws))]
 pub fn met(s: &[u8], kind: usize, need: u8, from: usize, end: usize) -> bool
     requires end_in_bounds { end ≤ length s.now }
     requires from_le_end { from ≤ end }
@@ -206,34 +182,23 @@ pub fn met(s: &[u8], kind: usize, need: u8, from: usize, end: usize) -> bool
     let gap = gap_of(kind);
     let mut at = from;
     while gap < end - at {
-        let Head::Tlv(t, _, stop) = tlv::head_at(s, at + gap, end) else {
+        let Some(tlv) = tlv::head_at(s, at + gap, end) else {
             return true;
         };
-        if need == 1 {
+        if need == 1 || cell_of(kind, tlv.tag) == need {
             return true;
         }
-        if cell_of(kind, t) == need {
-            return true;
-        }
-        at = stop;
+        at = tlv.stop;
     }
-    if need == 2 {
-        return at == end;
-    }
-    false
+    need == 2 && at == end
 }
 
 // A part that must stand in a container stands nowhere in it.
+#[tactic(auto, using(crate::proofs::RowLaws::lacks_laws))]
 pub fn lacks(s: &[u8], kind: usize, from: usize, end: usize) -> bool
     requires end_in_bounds { end ≤ length s.now }
     requires from_le_end { from ≤ end }
     ensures { result ≡ Grammar·lacks kind end (tlvs (gap_of kind) s.now from end) }
 {
-    if met(s, kind, need_of(kind, 0), from, end) {
-        if met(s, kind, need_of(kind, 1), from, end) {
-            return false;
-        }
-        return true;
-    }
-    true
+    !met(s, kind, need_of(kind, 0), from, end) || !met(s, kind, need_of(kind, 1), from, end)
 }

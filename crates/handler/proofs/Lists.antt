@@ -15,7 +15,7 @@ use Rattle.rules.specs.Tlvs.{Tlvs, done, past, tlv, tlvs, plain, count_in, count
 use Rattle.rules.specs.Page.{content_at, row_of, page_head, page_row, unit_at, unit_row}
 use Rattle.rules.specs.Handler.{modifier_at, or_else, last_in, default, handle}
 use Rattle.leaf.proofs.Cases.{both}
-use Rattle.page.specs.declared.Span.{Span}
+use Rattle.rules.specs.declared.Span.{Span}
 use Rattle.page.specs.Span.{span_of}
 use Rattle.page.proofs.Spans.{page_within, span_row, span_within}
 use Rattle.unit.specs.Nth.{nth_in}

@@ -4,29 +4,21 @@
 
 mod calls;
 
-ghost use Rattle.std.specs.Prelude.{IfOk};
-ghost use Rattle.lines.specs.Counts.{IsPrefixLen};
-
 use calls::Call;
-use lines::say;
 use machine::Machine;
 use saying::{say_ended, say_loaded, say_ran, say_responded, say_shown, say_stepped, say_written};
+use std::alloc::AllocError;
 use std::io;
 use std::io::Read;
 
-// The machine, and how many bytes of a line are held: 65,537 for one that is too long.
-#[derive(Drop)]
-struct Host {
-    machine: Machine,
-    held: usize,
-}
+// The bytes of the longest line that is a call.
+const LONGEST: usize = 65536;
 
 fn step(rt: &impl Print, machine: Machine) -> io::Result<Machine> {
     let mut out = [0u8; 255];
     let taken = machine.step(&mut out);
     let after = taken.machine;
-    let stepped = taken.stepped;
-    say_stepped(rt, stepped, &out, &after.state.wanted)?;
+    say_stepped(rt, taken.stepped, &out, &after.state.wanted)?;
     Ok(after)
 }
 
@@ -34,163 +26,117 @@ fn run(rt: &impl Print, machine: Machine, most: usize) -> io::Result<Machine> {
     let mut out = [0u8; 255];
     let gone = machine.run(most, &mut out);
     let after = gone.machine;
-    let ran = gone.ran;
-    say_ran(rt, ran, &out, &after.state.wanted)?;
+    say_ran(rt, gone.ran, &out, &after.state.wanted)?;
     Ok(after)
 }
 
-fn respond(
-    rt: &impl Print,
-    machine: Machine,
-    bytes: &[u8; 32768],
-    n: usize,
-) -> io::Result<Machine> {
+fn respond(rt: &impl Print, machine: Machine, response: &[u8]) -> io::Result<Machine> {
     let mut out = [0u8; 255];
-    let answered = machine.respond(slice::part_of(bytes, 0, n), &mut out);
+    let answered = machine.respond(response, &mut out);
     let after = answered.machine;
-    let outcome = answered.outcome;
-    say_responded(rt, outcome, &out, &after.state.wanted)?;
+    say_responded(rt, answered.outcome, &out, &after.state.wanted)?;
     Ok(after)
 }
 
-fn load(rt: &impl Print, machine: Machine, bytes: &[u8; 32768], n: usize) -> io::Result<Machine> {
-    let begun = machine.load(slice::part_of(bytes, 0, n));
-    let loaded = begun.loaded;
-    say_loaded(rt, loaded)?;
+fn load(rt: &impl Print, machine: Machine, page: &[u8]) -> io::Result<Machine> {
+    let begun = machine.load(page);
+    say_loaded(rt, begun.loaded)?;
     Ok(begun.machine)
 }
 
 fn end(rt: &impl Print, machine: Machine) -> io::Result<Machine> {
     let settled = machine.end();
-    let told = settled.told;
-    say_ended(rt, told)?;
+    say_ended(rt, settled.told)?;
     Ok(settled.machine)
 }
 
-fn write(
-    rt: &impl Print,
-    machine: Machine,
-    number: u8,
-    bytes: &[u8; 32768],
-    n: usize,
-) -> io::Result<Machine> {
-    let settled = machine.set_environment(number, slice::part_of(bytes, 0, n));
-    let told = settled.told;
-    say_written(rt, told)?;
+fn write(rt: &impl Print, machine: Machine, number: u8, value: &[u8]) -> io::Result<Machine> {
+    let settled = machine.set_environment(number, value);
+    say_written(rt, settled.told)?;
     Ok(settled.machine)
-}
-
-fn read(
-    rt: &impl Print,
-    machine: Machine,
-    number: u8,
-    bytes: &[u8; 32768],
-    n: usize,
-) -> io::Result<()> {
-    say_shown(rt, machine.read(number, slice::part_of(bytes, 0, n)))
 }
 
 // Does a call, answers it, and gives the machine after it.
-fn act(rt: &impl Print, machine: Machine, call: Call, bytes: &[u8; 32768]) -> io::Result<Machine> {
+fn act(rt: &impl Print, machine: Machine, call: Call<'_>) -> io::Result<Machine> {
     match call {
         Call::Nothing => Ok(machine),
-        Call::Unknown => {
-            say(rt, b"?\n")?;
-            Ok(machine)
-        }
         Call::Create => {
-            say(rt, b"create 0\n")?;
+            println!(rt; "create 0")?;
             Ok(Machine::create())
         }
         Call::Step => step(rt, machine),
         Call::End => end(rt, machine),
         Call::Run(most) => run(rt, machine, most),
-        Call::Load(n) => load(rt, machine, bytes, n),
-        Call::Respond(n) => respond(rt, machine, bytes, n),
-        Call::Write(number, n) => write(rt, machine, number, bytes, n),
-        Call::Read(number, n) => {
-            read(rt, machine, number, bytes, n)?;
+        Call::Load(page) => load(rt, machine, page),
+        Call::Respond(response) => respond(rt, machine, response),
+        Call::Write(number, value) => write(rt, machine, number, value),
+        Call::Read(number, service) => {
+            say_shown(rt, machine.read(number, service))?;
             Ok(machine)
         }
     }
 }
 
-// Adds bytes to a line of which some are held, and tells how many then are.
-fn add(line: &mut [u8; 65536], held: usize, bytes: &[u8]) -> usize {
-    if 65536 < held {
-        return held;
-    }
-    if 65536 - held < bytes.len() {
-        return 65537;
-    }
-    pour::pour(line, held, bytes);
-    held + bytes.len()
-}
-
 // A line has ended. One that is too long is no call.
-#[tactic(auto, using(saying::proofs::PartLaws::part_fits))]
 fn close(
     rt: &impl Print,
     machine: Machine,
-    line: &[u8; 65536],
-    held: usize,
-    bytes: &mut [u8; 32768],
+    line: &[u8],
+    buffer: &mut [u8; 32768],
 ) -> io::Result<Machine> {
-    if 65536 < held {
-        return act(rt, machine, Call::Unknown, bytes);
-    }
-    let call = calls::of_line(slice::part_of(line, 0, held), bytes);
-    act(rt, machine, call, bytes)
+    let call = if line.len() <= LONGEST {
+        calls::of_line(line, buffer)
+    } else {
+        None
+    };
+    let Some(call) = call else {
+        println!(rt; "?")?;
+        return Ok(machine);
+    };
+    act(rt, machine, call)
 }
 
-// Does the calls of the lines that end in what came, and holds the rest.
+// Adds bytes to a line, up to one more than the longest has: that one tells a line that is too long.
+fn add(line: &mut Vec<u8>, bytes: &[u8]) -> Result<(), AllocError> {
+    let room = (LONGEST + 1).saturating_sub(line.len());
+    line.extend_from_slice(&bytes[..bytes.len().min(room)])
+}
+
+// Does the calls of the lines that end in what came, and holds the line that goes on.
 fn feed(
     rt: &impl Print,
-    host: Host,
+    mut machine: Machine,
     chunk: &[u8],
-    line: &mut [u8; 65536],
-    bytes: &mut [u8; 32768],
-) -> io::Result<Host> {
-    let mut machine = host.machine;
-    let mut held = host.held;
-    let mut at = 0;
-    while at < chunk.len() {
-        let end = lines::find(chunk, at, b'\n');
-        held = add(line, held, &chunk[at..end]);
-        if end == chunk.len() {
-            return Ok(Host { machine, held });
+    line: &mut Vec<u8>,
+    buffer: &mut [u8; 32768],
+) -> io::Result<Machine> {
+    for piece in chunk.split_inclusive(|b| *b == b'\n') {
+        match piece.strip_suffix(b"\n") {
+            Some(end) => {
+                add(line, end)?;
+                machine = close(rt, machine, line, buffer)?;
+                line.clear();
+            }
+            None => add(line, piece)?,
         }
-        machine = close(rt, machine, line, held, bytes)?;
-        held = 0;
-        at = end + 1;
     }
-    Ok(Host { machine, held })
-}
-
-// Reads once, and tells how many bytes came.
-fn read_on(reader: &mut impl Read, chunk: &mut [u8; 65536]) -> io::Result<usize>
-    ensures { IfOk result (λ n. IsPrefixLen n chunk.new) }
-{
-    reader.read(chunk)
+    Ok(machine)
 }
 
 // Nothing says that the input ends, so the turns are counted up to a number that no run reaches.
 fn main(rt: HostRuntime) -> io::Result<()> {
     let mut reader = rt.reader();
     let mut chunk = [0u8; 65536];
-    let mut line = [0u8; 65536];
-    let mut bytes = [0u8; 32768];
-    let mut host = Host {
-        machine: Machine::create(),
-        held: 0,
-    };
+    let mut line = Vec::with_capacity(rt.alloc(), LONGEST + 1)?;
+    let mut buffer = [0u8; 32768];
+    let mut machine = Machine::create();
     for _ in 0..u64::MAX {
-        let n = read_on(&mut reader, &mut chunk)?;
+        let n = reader.read(&mut chunk)?;
         if n == 0 {
-            close(&rt, host.machine, &line, host.held, &mut bytes)?;
+            close(&rt, machine, &line, &mut buffer)?;
             return Ok(());
         }
-        host = feed(&rt, host, &chunk[..n], &mut line, &mut bytes)?;
+        machine = feed(&rt, machine, &chunk[..n], &mut line, &mut buffer)?;
     }
     Ok(())
 }

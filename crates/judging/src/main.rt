@@ -2,93 +2,57 @@
 // '-' is a page of no bytes, and a line that is no hex is answered by '?'.
 #![tactic(auto)]
 
-use lines::{say, say_number};
-use rules::Judged;
+use rules::Rejection;
 use std::io;
 use std::io::Read;
 
-// What a turn leaves of a line that goes on, or that the input ended.
-#[derive(Drop)]
-enum Turn {
-    More(usize),
-    Over,
-}
+// How many bytes of a line are kept: what is longer is too long for a page.
+const LONGEST: usize = 65536;
 
-fn show(rt: &impl Print, j: Judged) -> io::Result<()> {
-    say(rt, b"load")?;
-    match j {
-        Judged::Accepted => say(rt, b" 0 -\n"),
-        Judged::Rejected(class, offset) => {
-            say_number(rt, class as u64)?;
-            say_number(rt, offset as u64)?;
-            say(rt, b"\n")
-        }
+fn show(rt: &impl Print, judged: Result<(), Rejection>) -> io::Result<()> {
+    match judged {
+        Ok(()) => println!(rt; "load 0 -"),
+        Err(Rejection { class, place }) => println!(rt; "load {class} {place}"),
     }
 }
 
 // Judges the page of a line. One that is too long for a page is judged by its length alone.
 fn answer(rt: &impl Print, line: &[u8]) -> io::Result<()> {
     if !lines::is_bytes(line) {
-        return say(rt, b"?\n");
+        return println!(rt; "?");
     }
     let mut page = [0u8; 65536];
     if page.len() < line.len() / 2 {
-        return show(rt, Judged::Rejected(1, 0));
+        return show(rt, Err(Rejection { class: 1, place: 0 }));
     }
     let n = lines::unhex(line, &mut page);
     show(rt, loader::judge(&page[..n]))
 }
 
-// Adds a byte to a line of n bytes, or answers the line where it ends, and tells how many bytes the line then has.
-// What is too long for the line is too long for a page.
-fn add(rt: &impl Print, line: &mut [u8], n: usize, b: u8) -> io::Result<usize> {
-    if b == b'\n' {
-        if n <= line.len() {
-            answer(rt, &line[0..n])?;
-        }
-        return Ok(0);
-    }
-    if n < line.len() {
-        line[n] = b;
-        return Ok(n + 1);
-    }
-    Ok(n)
-}
-
-fn feed(rt: &impl Print, chunk: &[u8], line: &mut [u8], held: usize) -> io::Result<usize> {
-    let mut n = held;
+// Answers the lines that end in what came, and keeps the line that goes on.
+fn feed(rt: &impl Print, chunk: &[u8], line: &mut Vec<u8>) -> io::Result<()> {
     for b in chunk {
-        n = add(rt, line, n, *b)?;
+        if *b == b'\n' {
+            answer(rt, line)?;
+            line.clear();
+        } else if line.len() < LONGEST {
+            line.push(*b)?;
+        }
     }
-    Ok(n)
-}
-
-// Reads once, and answers the lines that end in what came.
-fn read_on(
-    rt: &impl Print,
-    reader: &mut impl Read,
-    line: &mut [u8],
-    held: usize,
-) -> io::Result<Turn> {
-    let mut chunk = [0u8; 4096];
-    let n = reader.read(&mut chunk)?;
-    if n == 0 {
-        return Ok(Turn::Over);
-    }
-    Ok(Turn::More(feed(rt, &chunk[..n], line, held)?))
+    Ok(())
 }
 
 // Nothing says that the input ends, so the turns are counted up to a number that no run reaches.
 fn main(rt: HostRuntime) -> io::Result<()> {
     let mut reader = rt.reader();
-    let mut line = [0u8; 65536];
-    let mut held: usize = 0;
+    let mut line = Vec::with_capacity(rt.alloc(), LONGEST)?;
+    let mut chunk = [0u8; 4096];
     for _ in 0..u64::MAX {
-        let t = read_on(&rt, &mut reader, &mut line, held)?;
-        let Turn::More(n) = t else {
+        let n = reader.read(&mut chunk)?;
+        if n == 0 {
             return Ok(());
-        };
-        held = n;
+        }
+        feed(&rt, &chunk[..n], &mut line)?;
     }
     Ok(())
 }

@@ -9,19 +9,19 @@ use Rattle.pour.specs.Pour.{blank}
 use Rattle.rules.specs.Bytes.{same, part}
 use Rattle.rules.specs.Page.{keeps_all, keep_list, password, unlock, bytes_of}
 use Rattle.rules.specs.Keep.{cleared, listed, kept_by, guard_by, unlocks}
-use Rattle.rules.specs.declared.Part.{Part}
-use Rattle.rules.specs.declared.Part.TheVariants.{Held, Missing}
 use Rattle.slots.specs.Slots.{slots}
 use Rattle.word.specs.Word.{word_in, is_marked, laid_marked, guard_of, tidy_guard}
 use Rattle.word.proofs.Parts.{guard_blank, guard_laid, blank_guard, laid_guard}
 use Rattle.keep.specs.Opens.{opens}
+use Rattle.std.specs.Prelude.{Option, None, Some}
+use Rattle.rules.specs.declared.Span.{Span}
 
-module _ (s a b : List ℕ) (p : Part) (e : p ≡ keep_list s) where
-  pub kept_listed : (from to : ℕ) → p ≡ Held from to → (n : List ℕ) → n ≡ part s from to → slots b ≡ listed n 0x80 (slots a) → slots b ≡ kept_by s (keep_list s) (slots a)
+module _ (s a b : List ℕ) (p : Option Span) (e : p ≡ keep_list s) where
+  pub kept_listed : (v : Span) → p ≡ Some v → (n : List ℕ) → n ≡ part s v.from v.end → slots b ≡ listed n 0x80 (slots a) → slots b ≡ kept_by s (keep_list s) (slots a)
   unfolding kept_by
-  kept_listed from to f n g h = h ∙ rw (g, ← e, f) refl
+  kept_listed v f n g h = h ∙ rw (g, ← e, f) refl
 
-  module _ (f : p ≡ Missing) (k : Bool) (g : k ≡ keeps_all s) where
+  module _ (f : p ≡ None) (k : Bool) (g : k ≡ keeps_all s) where
     pub kept_all : k ≡ true → slots a ≡ kept_by s (keep_list s) (slots a)
     unfolding kept_by
     kept_all h = rw (← e, f, ← g, h) refl
@@ -32,15 +32,15 @@ module _ (s a b : List ℕ) (p : Part) (e : p ≡ keep_list s) where
 
 pub ruleset kept_laws = (kept_listed, kept_all, kept_none)
 
-module _ (s a b : List ℕ) (p : Part) (e : p ≡ password s) where
-  pub guard_none : p ≡ Missing → b ≡ blank 18 → (length (bytes_of s (password s)) ≤ 16 → guard_of b ≡ guard_by s (password s))
+module _ (s a b : List ℕ) (p : Option Span) (e : p ≡ password s) where
+  pub guard_none : p ≡ None → b ≡ blank 18 → (length (bytes_of s (password s)) ≤ 16 → guard_of b ≡ guard_by s (password s))
   unfolding guard_by
   guard_none f g _ = rw (g, ← e, f) guard_blank
 
   pub guard_none_tidy : b ≡ blank 18 → (tidy_guard a ≡ true → tidy_guard b ≡ true)
   guard_none_tidy g _ = rw g blank_guard
 
-  module _ (from to : ℕ) (f : p ≡ Held from to) (w : List ℕ) (g : w ≡ part s from to) where
+  module _ (v : Span) (f : p ≡ Some v) (w : List ℕ) (g : w ≡ part s v.from v.end) where
     pub guard_long : 16 < length w → (length (bytes_of s (password s)) ≤ 16 → guard_of a ≡ guard_by s (password s))
     unfolding bytes_of
     guard_long h l = absurd (let z : length w ≤ 16 = rw g (rw (← e, f) at l) in omega arith)
@@ -59,13 +59,13 @@ module _ (s g : List ℕ) (m : Bool) (e : m ≡ is_marked g) where
   unfolding opens guard_of
   open_free h = sym (rw (← e, h) refl)
 
-  module _ (h : m ≡ true) (p : Part) (f : p ≡ unlock s) where
-    pub open_none : p ≡ Missing → false ≡ opens s (guard_of g)
+  module _ (h : m ≡ true) (p : Option Span) (f : p ≡ unlock s) where
+    pub open_none : p ≡ None → false ≡ opens s (guard_of g)
     unfolding opens guard_of unlocks
     open_none k = sym (rw (← e, h, ← f, k) refl)
 
-    pub open_word : (from to : ℕ) → p ≡ Held from to → (u : List ℕ) → u ≡ part s from to → (w : List ℕ) → w ≡ word_in (drop 1 g) → (r : Bool) → r ≡ same w u → r ≡ opens s (guard_of g)
+    pub open_word : (v : Span) → p ≡ Some v → (u : List ℕ) → u ≡ part s v.from v.end → (w : List ℕ) → w ≡ word_in (drop 1 g) → (r : Bool) → r ≡ same w u → r ≡ opens s (guard_of g)
     unfolding opens guard_of unlocks
-    open_word from to k u l w n r o = o ∙ sym (rw (← e, h, ← f, k, ← l, ← n) refl)
+    open_word v k u l w n r o = o ∙ sym (rw (← e, h, ← f, k, ← l, ← n) refl)
 
 pub ruleset open_laws = (open_free, open_none, open_word)

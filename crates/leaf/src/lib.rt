@@ -22,29 +22,12 @@ pub fn pair(high: u8, low: u8) -> usize
 pub fn same_bytes(a: &[u8], b: &[u8]) -> bool
     ensures { result ≡ same a.now b.now }
 {
-    if a.len() != b.len() {
-        return false;
-    }
-    let mut i = 0;
-    while i < a.len() {
-        if a[i] != b[i] {
-            return false;
-        }
-        i += 1;
-    }
-    true
+    a == b
 }
 
 // A number stands in a list of numbers.
 pub fn among_bytes(list: &[u8], n: u8) -> bool
     ensures { result ≡ among list.now n }
 {
-    let mut i = 0;
-    while i < list.len() {
-        if n == list[i] {
-            return true;
-        }
-        i += 1;
-    }
-    false
+    list.contains(&n)
 }

@@ -7,9 +7,6 @@ use mathlib.Core.Path.{◌≡◌, refl}
 use native.Mathlib.Omega.{arith}
 use lib.ListN.{length, length-append}
 use borrow.Author.Tests.{ne_eqb, leb-true}
-use Rattle.rules.specs.declared.Judged.TheVariants.{Accepted}
-use Rattle.rules.specs.declared.Part.{Part}
-use Rattle.rules.specs.declared.Part.TheVariants.{Held, Missing}
 use Rattle.rules.specs.Bytes.{among}
 use Rattle.rules.specs.Loader.{judge}
 use Rattle.rules.specs.Shape.{number_in}
@@ -24,18 +21,20 @@ use Rattle.rules.proofs.IsolationRows.{length_part}
 use Rattle.rules.proofs.StaysCardPage.{PartFine, page_fine, in_size}
 use Rattle.leaf.proofs.Cases.{both}
 use Rattle.leaving.specs.Leaving.{entry_for, left_by}
+use Rattle.std.specs.Prelude.{Option, Some, None, Ok}
+use Rattle.rules.specs.declared.Span.{Span}
 
-password_size : (s : List ℕ) (p : Part) → guard_fine (guard_by s p) ≡ true → length (bytes_of s p) ≤ 16
+password_size : (s : List ℕ) (p : Option Span) → guard_fine (guard_by s p) ≡ true → length (bytes_of s p) ≤ 16
 unfolding guard_by guard_fine bytes_of
-password_size s (Held start stop) e = leb-true _ _ e
-password_size s Missing e = omega arith
+password_size s (Some p) e = leb-true _ _ e
+password_size s None e = omega arith
 
-anchor_size : (s : List ℕ) (p : Part) → PartFine s 0x0B p → length (bytes_of s p) ≤ 32
+anchor_size : (s : List ℕ) (p : Option Span) → PartFine s 0x0B p → length (bytes_of s p) ≤ 32
 unfolding bytes_of size_of sizes number_in among
-anchor_size s (Held start stop) h = rw (length_part s start stop h.1) (in_size 96 (stop - start) refl h.0).1
-anchor_size s Missing h = omega arith
+anchor_size s (Some p) h = rw (length_part s p.from p.end h.1) (in_size 96 (p.end - p.from) refl h.0).1
+anchor_size s None h = omega arith
 
-module _ (s : List ℕ) (e : judge s ≡ Accepted) where
+module _ (s : List ℕ) (e : judge s ≡ Ok tt) where
   pub accepted_service : length (service s) ≤ 16
   accepted_service = (page_fine s e).served
 

@@ -8,9 +8,6 @@ use native.Mathlib.Omega.{arith}
 use lib.ListN.{length, take, drop, length-take}
 use lib.Seq.{length-take-le, take-append-add, take-append_seam}
 use borrow.Author.Tests.{eq-eqb, ne_eqb}
-use Rattle.rules.specs.declared.Judged.TheVariants.{Accepted}
-use Rattle.rules.specs.declared.Part.{Part}
-use Rattle.rules.specs.declared.Part.TheVariants.{Held, Missing}
 use Rattle.rules.specs.Bytes.{part}
 use Rattle.rules.specs.Loader.{judge}
 use Rattle.rules.specs.Page.{identification, page_part, anchor, bytes_of, is_held, unrecorded}
@@ -21,6 +18,8 @@ use Rattle.pour.specs.Pour.{poured}
 use Rattle.pour.proofs.PourLaws.{length_poured}
 use Rattle.leaving.specs.Leaving.{entry_for, left_by}
 use Rattle.leaving.proofs.Accepted.{accepted_name, accepted_anchor}
+use Rattle.std.specs.Prelude.{Option, None, Ok, Some}
+use Rattle.rules.specs.declared.Span.{Span}
 
 -- what stands up to the end of the bytes poured in
 poured_front : (a : List ℕ) (at : ℕ) (b : List ℕ) → at ≤ length a → take (at + length b) (poured a at b) ≡ take at a ++ b
@@ -51,28 +50,28 @@ join_is n a e h i j = h
 
 pub ruleset join_laws = (lay_is, join_name, join_anchor, join_is)
 
-module _ (s : List ℕ) (p : Part) (is : p ≡ page_part s 0x02) where
-  pub name_none : p ≡ Missing → (v : List ℕ) → v ≡ part s 0 0 → v ≡ identification s
+module _ (s : List ℕ) (p : Option Span) (is : p ≡ page_part s 0x02) where
+  pub name_none : p ≡ None → (v : List ℕ) → v ≡ part s 0 0 → v ≡ identification s
   unfolding identification bytes_of part
   name_none x v y = y ∙ sym (simp (sym is ∙ x))
 
-  pub name_held : (a b : ℕ) → p ≡ Held a b → (v : List ℕ) → v ≡ part s a b → v ≡ identification s
+  pub name_held : (w : Span) → p ≡ Some w → (v : List ℕ) → v ≡ part s w.from w.end → v ≡ identification s
   unfolding identification bytes_of
-  name_held a b x v y = y ∙ sym (simp (sym is ∙ x))
+  name_held w x v y = y ∙ sym (simp (sym is ∙ x))
 
 pub ruleset name_laws = (name_none, name_held)
 
-module _ (s : List ℕ) (k : ℕ) (p : Part) (is : p ≡ anchor s k) where
-  pub entry_none : p ≡ Missing → (judge s ≡ Accepted → [] ≡ entry_for s k)
+module _ (s : List ℕ) (k : ℕ) (p : Option Span) (is : p ≡ anchor s k) where
+  pub entry_none : p ≡ None → (judge s ≡ Ok tt → [] ≡ entry_for s k)
   unfolding entry_for recorded is_held
   entry_none x _ = sym (simp (sym is ∙ x))
 
-  module _ (a b : ℕ) (x : p ≡ Held a b) (u : Bool) (f : u ≡ unrecorded s k) where
-    pub entry_flag : u ≡ true → (judge s ≡ Accepted → [] ≡ entry_for s k)
+  module _ (z : Span) (x : p ≡ Some z) (u : Bool) (f : u ≡ unrecorded s k) where
+    pub entry_flag : u ≡ true → (judge s ≡ Ok tt → [] ≡ entry_for s k)
     unfolding entry_for recorded is_held
     entry_flag t _ = sym (simp (sym is ∙ x, sym f ∙ t))
 
-    held_bytes : (v : List ℕ) → v ≡ part s a b → bytes_of s (anchor s k) ≡ v
+    held_bytes : (v : List ℕ) → v ≡ part s z.from z.end → bytes_of s (anchor s k) ≡ v
     unfolding bytes_of
     held_bytes v h = simp (sym is ∙ x) (sym h)
 
@@ -80,7 +79,7 @@ module _ (s : List ℕ) (k : ℕ) (p : Part) (is : p ≡ anchor s k) where
     unfolding recorded is_held
     recorded_is t = simp (sym is ∙ x, sym f ∙ t)
 
-    pub entry_held : u ≡ false → (n v e : List ℕ) → n ≡ identification s → v ≡ part s a b → (length n ≤ 32 → length v ≤ 32 → e ≡ n ++ 0x23 ∷ v) → (judge s ≡ Accepted → e ≡ entry_for s k)
+    pub entry_held : u ≡ false → (n v e : List ℕ) → n ≡ identification s → v ≡ part s z.from z.end → (length n ≤ 32 → length v ≤ 32 → e ≡ n ++ 0x23 ∷ v) → (judge s ≡ Ok tt → e ≡ entry_for s k)
     unfolding entry_for reference
     entry_held t n v e g h w j =
         let d = held_bytes v h in

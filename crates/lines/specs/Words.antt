@@ -1,21 +1,18 @@
 -- Words in a line, and the number that a word says in decimal.
-use Rattle.std.specs.Prelude.{ℕ, suc, ◌+◌, ◌-◌, ◌*◌, cond, List, [], ◌∷◌, length, ltb, eqb}
-use Rattle.lines.specs.declared.Count.{Count}
-use Rattle.lines.specs.declared.Count.TheVariants.{Of, NoCount}
+use Rattle.std.specs.Prelude.{ℕ, ◌+◌, ◌-◌, ◌*◌, cond, List, [], ◌∷◌, length, drop, ltb, eqb, ◌==◌, Option, Some, None, option_map, position}
 
--- how many bytes stand before the first b
-unfoldable pub before : ℕ → List ℕ → ℕ
-before b [] = 0
-before b (x ∷ xs) = cond (eqb x b) 0 (suc (before b xs))
+-- the place of the first b from a place on
+abbrev pub place_of : ℕ → ℕ → List ℕ → Option ℕ
+place_of b from line = option_map (λ n. from + n) (position (λ x. x == b) (drop from line))
 
 -- n with the digits that follow; no number above 4,294,967,295
-unfoldable pub count_from : ℕ → List ℕ → Count
-count_from n [] = Of n
+abbrev pub count_from : ℕ → List ℕ → Option ℕ
+count_from n [] = Some n
 count_from n (b ∷ bs) =
-    cond (ltb b 48) NoCount
-    (cond (ltb 57 b) NoCount
-    (cond (ltb 4294967295 (n * 10 + (b - 48))) NoCount
+    cond (ltb b 48) None
+    (cond (ltb 57 b) None
+    (cond (ltb 4294967295 (n * 10 + (b - 48))) None
     (count_from (n * 10 + (b - 48)) bs)))
 
-unfoldable pub count_of : List ℕ → Count
-count_of word = cond (eqb (length word) 0) NoCount (count_from 0 word)
+abbrev pub count_of : List ℕ → Option ℕ
+count_of word = cond (eqb (length word) 0) None (count_from 0 word)

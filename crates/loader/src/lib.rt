@@ -4,41 +4,34 @@
 ghost use Rattle.std.specs.Prelude.{◌≡◌};
 ghost use Rattle.rules.specs.Loader.{judge as Loader·judge};
 
-use rules::{Found, Head, Judged};
+use rules::Rejection;
 
-// The classes in their order, each judged over the whole page before the next.
-const CLASSES: [u8; 6] = [2, 3, 4, 5, 6, 7];
+// The classes behind those of the structure, each judged over the whole page before the next.
+const CLASSES: [u8; 4] = [4, 5, 6, 7];
 
 // The longest page.
 const PAGE: usize = 4096;
 
 // The answer to a page: accepted, or the number from 1 to 7 and the offset of its first fault.
-pub fn judge(page: &[u8]) -> Judged
+#[tactic(auto, using(crate::proofs::JudgeLaws::judge_laws))]
+pub fn judge(page: &[u8]) -> Result<(), Rejection>
     ensures { result ≡ Loader·judge page.now }
 {
     let n = page.len();
-    if n == 0 {
-        return Judged::Rejected(1, 0);
+    if n == 0 || PAGE < n {
+        return Err(Rejection { class: 1, place: 0 });
     }
-    if PAGE < n {
-        return Judged::Rejected(1, 0);
-    }
-    let Head::Tlv(_, _, stop) = page::page_head(page) else {
-        return Judged::Rejected(2, 0);
+    let Some(tlv) = page::page_head(page) else {
+        return Err(Rejection { class: 2, place: 0 });
     };
-    if faultless::page_clean(page, stop) {
-        return Judged::Accepted;
+    if faultless::page_clean(page, tlv.stop) {
+        return Ok(());
     }
-    if let Judged::Rejected(class, p) = classes::structure(page, stop) {
-        return Judged::Rejected(class, p);
-    }
-    let mut i = 2;
-    while i < 6 {
-        let class = CLASSES[i];
-        if let Found::At(p) = classes::class_fault(page, class, stop) {
-            return Judged::Rejected(class, p);
+    classes::structure(page, tlv.stop)?;
+    for class in CLASSES {
+        if let Some(place) = classes::class_fault(page, class, tlv.stop) {
+            return Err(Rejection { class, place });
         }
-        i += 1;
     }
-    Judged::Accepted
+    Ok(())
 }

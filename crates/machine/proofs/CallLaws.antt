@@ -1,5 +1,6 @@
 -- The host's calls, in the shape of what their proofs need.
 -- Assumes nothing.
+use Rattle.rules.specs.declared.LoadError.TheVariants.{Faulty}
 use Prim.Native.Nat.{ℕ, ◌≤◌, ◌<◌}
 use mathlib.Core.Bool.{Bool, true, false, cond, true≢false}
 use mathlib.Core.List.{List, []}
@@ -9,17 +10,9 @@ use lib.ListN.{length, set, take}
 use lib.Dec.{eqb, ltb}
 use borrow.Author.Tests.{eq-eqb, ne_eqb, lt-ltb, le-ltb, lt-leb, le-leb, eqb-true, ltb-false}
 use Rattle.leaf.proofs.Cases.{both}
-use Rattle.rules.specs.declared.Head.{Head}
-use Rattle.rules.specs.declared.Head.TheVariants.{Tlv, Past}
-use Rattle.rules.specs.declared.Judged.{Judged}
-use Rattle.rules.specs.declared.Judged.TheVariants.{Accepted, Rejected}
-use Rattle.rules.specs.declared.Loaded.TheVariants.{Started, Faulty, Unloaded}
-use Rattle.rules.specs.declared.Told.TheVariants.{Done, Undone}
 use Rattle.rules.specs.declared.Outcome.{Outcome}
 use Rattle.rules.specs.declared.Outcome.TheVariants.{Refused}
 use Rattle.rules.specs.declared.Refusal.TheVariants.{Memory, Security, Buffer, Call, Response, State as NoCard}
-use Rattle.rules.specs.declared.Reply.{Reply}
-use Rattle.rules.specs.declared.Reply.TheVariants.{Result, Malformed}
 use Rattle.rules.specs.declared.Stepped.{Stepped}
 use Rattle.rules.specs.Loader.{judge}
 use Rattle.rules.specs.Page.{bytes_of, password, code_at}
@@ -42,6 +35,11 @@ use Rattle.sending.specs.Sent.{Sends}
 use Rattle.machine.specs.declared.Machine.{Machine}
 use Rattle.machine.specs.Meets.{Meets}
 use Rattle.machine.proofs.Parts.{sound_is, rests, runs_on, ready_is, waiting_is, runs_fine, ready_runs, waiting_runs, waiting_held}
+use Rattle.std.specs.Prelude.{Option, None, Result, Ok, Err, Some}
+use Rattle.rules.specs.declared.Tlv.{Tlv}
+use Rattle.rules.specs.declared.Rejection.{Rejection}
+use Rattle.rules.specs.Built.{reject, unloaded}
+use Rattle.rules.specs.declared.Reply.{Reply}
 
 taken_same : (o o' : Outcome) (k k' t t' : ℕ) (a a' r r' : List ℕ) → o ≡ o' → k ≡ k' → t ≡ t' → a ≡ a' → r ≡ r' → taken (record { outcome = o; unit = k; tag = t }) a r ≡ taken (record { outcome = o'; unit = k'; tag = t' }) a' r'
 taken_same o o' k k' t t' a a' r r' e f g h i = rw (e, f, g, h, i) refl
@@ -78,79 +76,79 @@ module _ (m : Machine) where
     running : b ≡ true → (m.state.len ≡ 0 → ⊥) → runs (card_of m.state) ≡ true
     running t = runs_on m.state (card_of m.state) (sound_is m.state (some t))
 
-    pub end_none : b ≡ false → Meets end m (told (Undone NoCard)) m
+    pub end_none : b ≡ false → Meets end m (told (Err NoCard)) m
     unfolding act admitted told_refused
-    end_none t = same_meets end (told (Undone NoCard)) (rw (none t) refl)
+    end_none t = same_meets end (told (Err NoCard)) (rw (none t) refl)
 
-    pub end_rests : b ≡ true → m.state.len ≡ 0 → Meets end m (told (Undone Call)) m
+    pub end_rests : b ≡ true → m.state.len ≡ 0 → Meets end m (told (Err Call)) m
     unfolding act admitted told_refused
-    end_rests t n = same_meets end (told (Undone Call)) (rw (some t, resting t n) refl)
+    end_rests t n = same_meets end (told (Err Call)) (rw (some t, resting t n) refl)
 
-    pub end_done : b ≡ true → (m.state.len ≡ 0 → ⊥) → (r : State) → ((d : Card) → Is m.state d → length (bytes_of d.run.page (password d.run.page)) ≤ 16 → Is r (rested d)) → Meets end m (told Done) (record { state = r })
+    pub end_done : b ≡ true → (m.state.len ≡ 0 → ⊥) → (r : State) → ((d : Card) → Is m.state d → length (bytes_of d.run.page (password d.run.page)) ≤ 16 → Is r (rested d)) → Meets end m (told (Ok tt)) (record { state = r })
     unfolding act admitted
     end_done t n r f =
         let is = sound_is m.state (some t) in
-        done_meets end (told Done) (record { state = r }) (did (told Done) (rested (card_of m.state))) (some t) (rw (some t, running t n) refl) refl
+        done_meets end (told (Ok tt)) (record { state = r }) (did (told (Ok tt)) (rested (card_of m.state))) (some t) (rw (some t, running t n) refl) refl
         (f (card_of m.state) is (accepted_password (card_of m.state).run.page (runs_fine m.state (card_of m.state) is (some t) n).accepted))
 
     module _ (number : ℕ) (value : List ℕ) where
-      pub set_none : b ≡ false → Meets (set_environment number value) m (told (Undone NoCard)) m
+      pub set_none : b ≡ false → Meets (set_environment number value) m (told (Err NoCard)) m
       unfolding act admitted told_refused
-      set_none t = same_meets (set_environment number value) (told (Undone NoCard)) (rw (none t) refl)
+      set_none t = same_meets (set_environment number value) (told (Err NoCard)) (rw (none t) refl)
 
-      pub set_runs : b ≡ true → (m.state.len ≡ 0 → ⊥) → Meets (set_environment number value) m (told (Undone Call)) m
+      pub set_runs : b ≡ true → (m.state.len ≡ 0 → ⊥) → Meets (set_environment number value) m (told (Err Call)) m
       unfolding act admitted told_refused
-      set_runs t n = same_meets (set_environment number value) (told (Undone Call)) (rw (some t, running t n) refl)
+      set_runs t n = same_meets (set_environment number value) (told (Err Call)) (rw (some t, running t n) refl)
 
       module _ (t : b ≡ true) (n : m.state.len ≡ 0) where
         reaches : act (set_environment number value) (card_of m.state) ≡ environment_done number value (card_of m.state)
         unfolding act admitted
         reaches = rw (some t, resting t n) refl
 
-        pub set_high : 0x3F < number → Meets (set_environment number value) m (told (Undone Security)) m
+        pub set_high : 0x3F < number → Meets (set_environment number value) m (told (Err Security)) m
         unfolding environment_done told_refused
-        set_high h = same_meets (set_environment number value) (told (Undone Security)) (reaches ∙ rw (lt-ltb _ _ h) refl)
+        set_high h = same_meets (set_environment number value) (told (Err Security)) (reaches ∙ rw (lt-ltb _ _ h) refl)
 
         module _ (h : number ≤ 0x3F) where
-          pub set_five : number ≡ 5 → Meets (set_environment number value) m (told (Undone Security)) m
+          pub set_five : number ≡ 5 → Meets (set_environment number value) m (told (Err Security)) m
           unfolding environment_done told_refused
-          set_five x = same_meets (set_environment number value) (told (Undone Security)) (reaches ∙ rw (le-ltb _ _ h, eq-eqb _ _ x) refl)
+          set_five x = same_meets (set_environment number value) (told (Err Security)) (reaches ∙ rw (le-ltb _ _ h, eq-eqb _ _ x) refl)
 
           module _ (x : number ≡ 5 → ⊥) where
-            pub set_long : 255 < length value → Meets (set_environment number value) m (told (Undone Memory)) m
+            pub set_long : 255 < length value → Meets (set_environment number value) m (told (Err Memory)) m
             unfolding environment_done told_refused
-            set_long l = same_meets (set_environment number value) (told (Undone Memory)) (reaches ∙ rw (le-ltb _ _ h, ne_eqb _ _ x, lt-ltb _ _ l) refl)
+            set_long l = same_meets (set_environment number value) (told (Err Memory)) (reaches ∙ rw (le-ltb _ _ h, ne_eqb _ _ x, lt-ltb _ _ l) refl)
 
             pub set_done : length value ≤ 255 → (k : ℕ) → k ≡ number → (environment : List ℕ) → slots environment ≡ set (slots m.state.environment) k (held 3 value) → (tidy_slots m.state.environment ≡ true → tidy_slots environment ≡ true)
-                → Meets (set_environment number value) m (told Done) (record { state = record { page = m.state.page; len = m.state.len; environment = environment; temporary = m.state.temporary; permanent = m.state.permanent; trail = m.state.trail; guard = m.state.guard; hand = m.state.hand; wanted = m.state.wanted; unit = m.state.unit; place = m.state.place } })
+                → Meets (set_environment number value) m (told (Ok tt)) (record { state = record { page = m.state.page; len = m.state.len; environment = environment; temporary = m.state.temporary; permanent = m.state.permanent; trail = m.state.trail; guard = m.state.guard; hand = m.state.hand; wanted = m.state.wanted; unit = m.state.unit; place = m.state.place } })
             unfolding environment_done
             set_done l k y environment f i =
                 let is = sound_is m.state (some t) in
-                done_meets (set_environment number value) (told Done) (record { state = record { page = m.state.page; len = m.state.len; environment = environment; temporary = m.state.temporary; permanent = m.state.permanent; trail = m.state.trail; guard = m.state.guard; hand = m.state.hand; wanted = m.state.wanted; unit = m.state.unit; place = m.state.place } })
-                (did (told Done) (with_environment (card_of m.state) (set (card_of m.state).environment number (held 3 value)))) (some t) (reaches ∙ rw (le-ltb _ _ h, ne_eqb _ _ x, le-ltb _ _ l) refl) refl
+                done_meets (set_environment number value) (told (Ok tt)) (record { state = record { page = m.state.page; len = m.state.len; environment = environment; temporary = m.state.temporary; permanent = m.state.permanent; trail = m.state.trail; guard = m.state.guard; hand = m.state.hand; wanted = m.state.wanted; unit = m.state.unit; place = m.state.place } })
+                (did (told (Ok tt)) (with_environment (card_of m.state) (set (card_of m.state).environment number (held 3 value)))) (some t) (reaches ∙ rw (le-ltb _ _ h, ne_eqb _ _ x, le-ltb _ _ l) refl) refl
                 (new_environment _ _ is environment _ (rw (← is.environment, ← y) f) (i is.tidy_environment))
 
     module _ (s : List ℕ) where
-      pub load_none : b ≡ false → Meets (load s) m (loaded (Unloaded NoCard)) m
+      pub load_none : b ≡ false → Meets (load s) m (loaded (unloaded NoCard)) m
       unfolding act admitted load_refused
-      load_none t = same_meets (load s) (loaded (Unloaded NoCard)) (rw (none t) refl)
+      load_none t = same_meets (load s) (loaded (unloaded NoCard)) (rw (none t) refl)
 
-      pub load_runs : b ≡ true → (m.state.len ≡ 0 → ⊥) → Meets (load s) m (loaded (Unloaded Call)) m
+      pub load_runs : b ≡ true → (m.state.len ≡ 0 → ⊥) → Meets (load s) m (loaded (unloaded Call)) m
       unfolding act admitted load_refused
-      load_runs t n = same_meets (load s) (loaded (Unloaded Call)) (rw (some t, running t n) refl)
+      load_runs t n = same_meets (load s) (loaded (unloaded Call)) (rw (some t, running t n) refl)
 
-      module _ (t : b ≡ true) (n : m.state.len ≡ 0) (j : Judged) (y : j ≡ judge s) where
+      module _ (t : b ≡ true) (n : m.state.len ≡ 0) (j : Result (Unit {0}) Rejection) (y : j ≡ judge s) where
         loads : act (load s) (card_of m.state) ≡ load_by s (card_of m.state) j
         unfolding act admitted
         loads = rw (some t, resting t n, y) refl
 
-        pub load_faulty : (class at : ℕ) → j ≡ Rejected class at → Meets (load s) m (loaded (Faulty class at)) m
+        pub load_faulty : (v : Rejection) → j ≡ Err v → Meets (load s) m (loaded (Err (Faulty v))) m
         unfolding load_by
-        load_faulty class at x = same_meets (load s) (loaded (Faulty class at)) (loads ∙ rw x refl)
+        load_faulty v x = same_meets (load s) (loaded (Err (Faulty v))) (loads ∙ rw x refl)
 
-        pub load_started : j ≡ Accepted → (r : State) → ((d : Card) → Is m.state d → Is r (started s d)) → Meets (load s) m (loaded Started) (record { state = r })
+        pub load_started : j ≡ Ok tt → (r : State) → ((d : Card) → Is m.state d → Is r (started s d)) → Meets (load s) m (loaded (Ok tt)) (record { state = r })
         unfolding load_by
-        load_started x r f = done_meets (load s) (loaded Started) (record { state = r }) (did (loaded Started) (started s (card_of m.state))) (some t) (loads ∙ rw x refl) refl (f (card_of m.state) (sound_is m.state (some t)))
+        load_started x r f = done_meets (load s) (loaded (Ok tt)) (record { state = r }) (did (loaded (Ok tt)) (started s (card_of m.state))) (some t) (loads ∙ rw x refl) refl (f (card_of m.state) (sound_is m.state (some t)))
 
     module _ (before : List ℕ) where
       module _ (l : 255 ≤ length before) where
@@ -191,42 +189,42 @@ module _ (m : Machine) where
             unfolding act admitted respond_refused lends reference_after
             respond_unasked y = same_meets (respond w before) (responded (Refused Call) before []) (rw (le-leb _ _ l, some t, waiting_now, y) refl)
 
-            module _ (y : r ≡ true) (p : Reply) (z : p ≡ reply w) where
+            module _ (y : r ≡ true) (p : Option Reply) (z : p ≡ reply w) where
               responds : act (respond w before) (card_of m.state) ≡ respond_by w before (card_of m.state) p
               unfolding act admitted lends
               responds = rw (le-leb _ _ l, some t, waiting_now, y, z) refl
 
-              pub respond_malformed : p ≡ Malformed → Meets (respond w before) m (responded (Refused Response) before (reference_after (card m.state) (Refused Response))) m
+              pub respond_malformed : p ≡ None → Meets (respond w before) m (responded (Refused Response) before (reference_after (card m.state) (Refused Response))) m
               unfolding respond_by respond_refused reference_after
               respond_malformed v = same_meets (respond w before) (responded (Refused Response) before []) (responds ∙ rw v refl)
 
-              pub respond_done_lem : (g : ℕ) (rest : Head) → p ≡ Result g rest → (after : List ℕ) (o : Moved) → ((d : Card) → Is m.state d → Running d → is_empty d.run.hand ≡ false → Sends o before after (answered d g w rest))
+              pub respond_done_lem : (a : Reply) → p ≡ Some a → (after : List ℕ) (o : Moved) → ((d : Card) → Is m.state d → Running d → is_empty d.run.hand ≡ false → Sends o before after (answered d a.general w a.after))
                   → Meets (respond w before) m (responded o.outcome after (reference_after (card o.state) o.outcome)) (record { state = o.state })
               unfolding respond_by respond_done
-              respond_done_lem g rest v after o f =
+              respond_done_lem a v after o f =
                   let is = sound_is m.state (some t) in
                   let q = f (card_of m.state) is (runs_fine m.state (card_of m.state) is (some t) (waiting_runs m.state b e t r y x)) (waiting_held m.state b e t r y x) in
-                  let k = is_card_lem o.state (answered (card_of m.state) g w rest).card q.comes.state in
+                  let k = is_card_lem o.state (answered (card_of m.state) a.general w a.after).card q.comes.state in
                   done_meets (respond w before) (responded o.outcome after (reference_after (card o.state) o.outcome)) (record { state = o.state })
-                  (respond_done before (answered (card_of m.state) g w rest)) (some t) (responds ∙ rw v refl)
+                  (respond_done before (answered (card_of m.state) a.general w a.after)) (some t) (responds ∙ rw v refl)
                   (rw (k, q.comes.outcome, ← q.buffer) refl) q.comes.state
 
-pub tag_none : (s : List ℕ) (p : List ℕ) → s ≡ p → (k place : ℕ) (h : Head) → h ≡ code_at s k place → h ≡ Past → 0 ≡ tag_of (code_at p k place)
+pub tag_none : (s : List ℕ) (p : List ℕ) → s ≡ p → (k place : ℕ) (h : Option Tlv) → h ≡ code_at s k place → h ≡ None → 0 ≡ tag_of (code_at p k place)
 unfolding tag_of
 tag_none s p e k place h f x = sym (rw (← e, ← f, x) refl)
 
-pub tag_held : (s : List ℕ) (p : List ℕ) → s ≡ p → (k place : ℕ) (h : Head) → h ≡ code_at s k place → (tag start stop : ℕ) → h ≡ Tlv tag start stop → tag ≡ tag_of (code_at p k place)
+pub tag_held : (s : List ℕ) (p : List ℕ) → s ≡ p → (k place : ℕ) (h : Option Tlv) → h ≡ code_at s k place → (v : Tlv) → h ≡ Some v → v.tag ≡ tag_of (code_at p k place)
 unfolding tag_of
-tag_held s p e k place h f tag start stop x = sym (rw (← e, ← f, x) refl)
+tag_held s p e k place h f v x = sym (rw (← e, ← f, x) refl)
 
-accepted_long : (s : List ℕ) → judge s ≡ Accepted → length s ≤ 4096
+accepted_long : (s : List ℕ) → judge s ≡ Ok tt → length s ≤ 4096
 unfolding judge
 accepted_long s e =
     both (eqb (length s) 0)
     (λ t. let z : length s ≡ 0 = eqb-true (length s) 0 t in omega arith)
     (λ t. both (ltb 4096 (length s))
-    (λ u. let v : Rejected 1 0 ≡ Accepted = rw (t, u) at e in let z : ◌≡◌ {A = ℕ} 0 1 = cc in absurd (omega arith))
+    (λ u. let v : reject 1 0 ≡ Ok tt = rw (t, u) at e in let z : ◌≡◌ {A = ℕ} 0 1 = cc in absurd (omega arith))
     (λ u. ltb-false 4096 (length s) u))
 
-pub accepted_size : (s : List ℕ) (j : Judged) → j ≡ judge s → j ≡ Accepted → length s ≤ 4096
+pub accepted_size : (s : List ℕ) (j : Result (Unit {0}) Rejection) → j ≡ judge s → j ≡ Ok tt → length s ≤ 4096
 accepted_size s j e x = accepted_long s (sym e ∙ x)

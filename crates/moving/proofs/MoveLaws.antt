@@ -1,15 +1,15 @@
 -- The moves, in the shape of what their proofs need.
 -- Assumes nothing.
 use Prim.Native.Nat.{ℕ, ◌≤◌, ◌<◌}
-use mathlib.Core.Bool.{true, false, cond}
+use mathlib.Core.Bool.{true, false}
 use mathlib.Core.List.{List, [], ◌∷◌}
+use mathlib.Core.Logic.{◌⊎◌, inl, inr}
 use mathlib.Core.Path.{◌≡◌, refl, sym, ap, ◌∙◌}
 use native.Mathlib.Omega.{arith}
 use lib.ListN.{length, set, take}
 use lib.Dec.{eqb}
 use borrow.Author.Tests.{eq-eqb, ne_eqb}
 use Rattle.pour.specs.Pour.{blank}
-use Rattle.rules.specs.declared.Judged.TheVariants.{Accepted}
 use Rattle.rules.specs.declared.Outcome.TheVariants.{On, Page, Ended, Refused}
 use Rattle.rules.specs.declared.Refusal.{Refusal}
 use Rattle.rules.specs.declared.Refusal.TheVariants.{Anchor}
@@ -39,25 +39,28 @@ use Rattle.state.specs.declared.State.{State}
 use Rattle.state.specs.State.{Is, page_of}
 use Rattle.state.proofs.Changes.{new_wanted}
 use Rattle.moving.specs.declared.Moved.{Moved}
-use Rattle.moving.specs.Moved.{Comes, Bounded}
+use Rattle.moving.specs.Moved.{Comes, Bounded, code_by}
 use Rattle.moving.proofs.Parts.{entry_is, noted_as, noted, placed_is, left_is, lowered_is}
+use Rattle.std.specs.Prelude.{Option, Some, None, Ok}
 
 -- the second byte of each code (12.3)
 pub low_as : (why what : Refusal) (v : List ℕ) → why ≡ what → code what ≡ v → code why ≡ v
 low_as why what v e f = ap code e ∙ f
 
-module _ (why : Refusal) (low : ℕ) (is : code why ≡ cond (eqb low 0) [] (0x6F ∷ low ∷ [])) (xs ys : List Slot) where
-  pub note_none : low ≡ 0 → ys ≡ set xs 5 (held 3 []) → ys ≡ set xs 5 (held 3 (code why))
-  note_none e f = rw (is, eq-eqb _ _ e) f
+module _ (why : Refusal) (o : Option ℕ) (is : code why ≡ code_by o) (xs ys : List Slot) where
+  pub note_none : o ≡ None → ys ≡ set xs 5 (held 3 []) → ys ≡ set xs 5 (held 3 (code why))
+  unfolding code_by
+  note_none e f = rw (is, e) f
 
-  pub note_some : (low ≡ 0 → ⊥) → ys ≡ set xs 5 (held 3 (0x6F ∷ low ∷ [])) → ys ≡ set xs 5 (held 3 (code why))
-  note_some e f = rw (is, ne_eqb _ _ e) f
+  pub note_some : (low : ℕ) → o ≡ Some low → ys ≡ set xs 5 (held 3 (0x6F ∷ low ∷ [])) → ys ≡ set xs 5 (held 3 (code why))
+  unfolding code_by
+  note_some low e f = rw (is, e) f
 
 pub ruleset note_laws = (note_none, note_some)
 
 module _ (m : State) (c : Card) (is : Is m c) where
   module _ (bytes environment : List ℕ) (e : slots environment ≡ set (slots m.environment) 5 (held 3 bytes)) (t : tidy_slots m.environment ≡ true → tidy_slots environment ≡ true) where
-    module _ (ok : judge c.run.page ≡ Accepted) (r : State) (f : (d : Card) → Is (record { page = m.page; len = m.len; environment = environment; temporary = m.temporary; permanent = m.permanent; trail = m.trail; guard = m.guard; hand = m.hand; wanted = m.wanted; unit = m.unit; place = m.place }) d → length (bytes_of d.run.page (password d.run.page)) ≤ 16 → Is r (rested d)) where
+    module _ (ok : judge c.run.page ≡ Ok tt) (r : State) (f : (d : Card) → Is (record { page = m.page; len = m.len; environment = environment; temporary = m.temporary; permanent = m.permanent; trail = m.trail; guard = m.guard; hand = m.hand; wanted = m.wanted; unit = m.unit; place = m.place }) d → length (bytes_of d.run.page (password d.run.page)) ≤ 16 → Is r (rested d)) where
       rests : Is r (rested (marked bytes c))
       unfolding marked with_environment
       rests = f (marked bytes c) (noted_as m c is environment t bytes e) (accepted_password c.run.page ok)
@@ -70,7 +73,7 @@ module _ (m : State) (c : Card) (is : Is m c) where
       unfolding moved no_error hex hex_to
       end_is x = record { outcome = refl; state = rw (← x) rests }
 
-  pub run_out_is : judge c.run.page ≡ Accepted → (r : State) → ((d : Card) → Is m d → length (bytes_of d.run.page (password d.run.page)) ≤ 16 → Is r (rested d)) → Comes (record { state = r; outcome = Ended }) (effect Ended (rested c))
+  pub run_out_is : judge c.run.page ≡ Ok tt → (r : State) → ((d : Card) → Is m d → length (bytes_of d.run.page (password d.run.page)) ≤ 16 → Is r (rested d)) → Comes (record { state = r; outcome = Ended }) (effect Ended (rested c))
   run_out_is ok r f = record { outcome = refl; state = f c is (accepted_password c.run.page ok) }
 
   pub enter_is : (k place : ℕ) (s hand : List ℕ) → s ≡ take m.len m.page → place ≡ entry_of s k → hand ≡ blank 257
@@ -83,8 +86,8 @@ module _ (m : State) (c : Card) (is : Is m c) where
     unfolding moved
     go_on_is place hand h = record { outcome = refl; state = placed_is m c is environment t e place hand (rw h hand_blank) (rw h blank_hand) }
 
-    module _ (ok : judge c.run.page ≡ Accepted) where
-      module _ (s entry : List ℕ) (n : ℕ) (p : s ≡ take m.len m.page) (q : judge s ≡ Accepted → take n entry ≡ entry_for s m.unit)
+    module _ (ok : judge c.run.page ≡ Ok tt) where
+      module _ (s entry : List ℕ) (n : ℕ) (p : s ≡ take m.len m.page) (q : judge s ≡ Ok tt → take n entry ≡ entry_for s m.unit)
           (trail : List ℕ) (h : history_of trail ≡ left_by (take n entry) (history_of m.trail)) (i : tidy_trail m.trail ≡ true → tidy_trail trail ≡ true) (r : Moved) where
         gone : Is (record { page = m.page; len = m.len; environment = environment; temporary = m.temporary; permanent = m.permanent; trail = trail; guard = m.guard; hand = m.hand; wanted = m.wanted; unit = m.unit; place = m.place }) (leaving (marked no_error c))
         gone = left_is m c is environment t e trail i ok (λ k. h ∙ rw (q (rw p k), p) refl)
@@ -93,12 +96,12 @@ module _ (m : State) (c : Card) (is : Is m c) where
         unfolding moved
         jump_is k f = f (leaving (marked no_error c)) gone
 
-        pub away_is : (w : List ℕ) → length w ≤ 65 → ((d : Card) → Is (record { page = m.page; len = m.len; environment = environment; temporary = m.temporary; permanent = m.permanent; trail = trail; guard = m.guard; hand = m.hand; wanted = m.wanted; unit = m.unit; place = m.place }) d → judge d.run.page ≡ Accepted → length w ≤ 65 → Comes r (wanting d w)) → Comes r (moved c (away w))
+        pub away_is : (w : List ℕ) → length w ≤ 65 → ((d : Card) → Is (record { page = m.page; len = m.len; environment = environment; temporary = m.temporary; permanent = m.permanent; trail = trail; guard = m.guard; hand = m.hand; wanted = m.wanted; unit = m.unit; place = m.place }) d → judge d.run.page ≡ Ok tt → length w ≤ 65 → Comes r (wanting d w)) → Comes r (moved c (away w))
         unfolding moved leaving marked with_history with_environment
         away_is w l f = f (leaving (marked no_error c)) gone ok l
 
       module _ (r : Moved) where
-        pub back_none : (p : ℕ) → p ≡ (history_of m.trail).pointer → p ≡ 0 → ((d : Card) → Is (record { page = m.page; len = m.len; environment = environment; temporary = m.temporary; permanent = m.permanent; trail = m.trail; guard = m.guard; hand = m.hand; wanted = m.wanted; unit = m.unit; place = m.place }) d → judge d.run.page ≡ Accepted → Comes r (effect Ended (rested d))) → Comes r (moved c back)
+        pub back_none : (p : ℕ) → p ≡ (history_of m.trail).pointer → p ≡ 0 → ((d : Card) → Is (record { page = m.page; len = m.len; environment = environment; temporary = m.temporary; permanent = m.permanent; trail = m.trail; guard = m.guard; hand = m.hand; wanted = m.wanted; unit = m.unit; place = m.place }) d → judge d.run.page ≡ Ok tt → Comes r (effect Ended (rested d))) → Comes r (moved c back)
         unfolding moved go_back marked with_environment
         back_none p x y f =
             let k : eqb c.history.pointer 0 ≡ true = rw (← is.history, ← x) (eq-eqb _ _ y) in
@@ -121,7 +124,7 @@ module _ (m : State) (c : Card) (is : Is m c) where
           unfolding back_to
           back_unit k b f = rw (back_is, b) (f _ returns)
 
-          module _ (fine : history_fine c.history ≡ true) (f : (d : Card) → Is (record { page = m.page; len = m.len; environment = environment; temporary = m.temporary; permanent = m.permanent; trail = trail; guard = m.guard; hand = m.hand; wanted = m.wanted; unit = m.unit; place = m.place }) d → judge d.run.page ≡ Accepted → length w ≤ 65 → Comes r (wanting d w)) where
+          module _ (fine : history_fine c.history ≡ true) (f : (d : Card) → Is (record { page = m.page; len = m.len; environment = environment; temporary = m.temporary; permanent = m.permanent; trail = trail; guard = m.guard; hand = m.hand; wanted = m.wanted; unit = m.unit; place = m.place }) d → judge d.run.page ≡ Ok tt → length w ≤ 65 → Comes r (wanting d w)) where
             fetched : Comes r (wanting (with_history (marked no_error c) (lowered c.history)) w)
             unfolding marked with_history with_environment
             fetched =
@@ -129,23 +132,20 @@ module _ (m : State) (c : Card) (is : Is m c) where
                 let u : eqb c.history.pointer 0 ≡ false = rw (← is.history, ← x) (ne_eqb _ _ y) in
                 f _ returns ok (rw v (bounds 2 65 (length (last c.history)) (last_wanted c.history (history_fit c.history fine) u)).1)
 
-            pub back_lacking : g ≡ Lacking → Comes r (moved c back)
+            pub back_fetched : (g ≡ Lacking) ⊎ (g ≡ Other) → Comes r (moved c back)
             unfolding back_to
-            back_lacking b = rw (back_is, b) fetched
+            back_fetched (inl b) = rw (back_is, b) fetched
+            back_fetched (inr b) = rw (back_is, b) fetched
 
-            pub back_other : g ≡ Other → Comes r (moved c back)
-            unfolding back_to
-            back_other b = rw (back_is, b) fetched
-
-  pub fetch_is : (w wanted : List ℕ) → (length w ≤ 65 → word_in wanted ≡ w) → (tidy_wanted m.wanted ≡ true → tidy_wanted wanted ≡ true) → judge c.run.page ≡ Accepted → length w ≤ 65 → (r : State)
+  pub fetch_is : (w wanted : List ℕ) → (length w ≤ 65 → word_in wanted ≡ w) → (tidy_wanted m.wanted ≡ true → tidy_wanted wanted ≡ true) → judge c.run.page ≡ Ok tt → length w ≤ 65 → (r : State)
       → ((d : Card) → Is (record { page = m.page; len = m.len; environment = m.environment; temporary = m.temporary; permanent = m.permanent; trail = m.trail; guard = m.guard; hand = m.hand; wanted = wanted; unit = m.unit; place = m.place }) d → length (bytes_of d.run.page (password d.run.page)) ≤ 16 → Is r (rested d)) → Comes (record { state = r; outcome = Page }) (wanting c w)
   unfolding wanting with_wanted
   fetch_is w wanted x t ok l r f =
       record { outcome = refl; state = f (with_wanted c w) (new_wanted m c is wanted w (x l) (t is.tidy_want)) (accepted_password c.run.page ok) }
 
-  module _ (ok : judge c.run.page ≡ Accepted) (start stop : ℕ) (r : Moved) where
+  module _ (ok : judge c.run.page ≡ Ok tt) (start stop : ℕ) (r : Moved) where
     pub depart_is : (s w : List ℕ) → s ≡ take m.len m.page → w ≡ part s start stop → length (part c.run.page start stop) ≤ 65
-        → ((d : Card) → Is m d → judge d.run.page ≡ Accepted → length w ≤ 65 → Comes r (moved d (away w))) → Comes r (moved c (away (part c.run.page start stop)))
+        → ((d : Card) → Is m d → judge d.run.page ≡ Ok tt → length w ≤ 65 → Comes r (moved d (away w))) → Comes r (moved c (away (part c.run.page start stop)))
     unfolding page_of
     depart_is s w p q l f =
         let v : w ≡ part c.run.page start stop = rw (← is.page, ← p) q in
@@ -156,40 +156,34 @@ module _ (m : State) (c : Card) (is : Is m c) where
       unfolding branch page_of
       branch_is = ap (branch_by c (part c.run.page start stop)) (sym (rw is.page at j))
 
-      pub branch_unit : (k : ℕ) → g ≡ UnitAt k → ((d : Card) → Is m d → judge d.run.page ≡ Accepted → Comes r (moved d (jump k))) → Comes r (applied c (branch c (part c.run.page start stop)))
+      pub branch_unit : (k : ℕ) → g ≡ UnitAt k → ((d : Card) → Is m d → judge d.run.page ≡ Ok tt → Comes r (moved d (jump k))) → Comes r (applied c (branch c (part c.run.page start stop)))
       unfolding branch_by applied
       branch_unit k b f = rw (branch_is, b) (f c is ok)
 
-      pub branch_lacking : g ≡ Lacking → ((d : Card) → Is m d → judge d.run.page ≡ Accepted → Comes r (applied d (refuses Anchor))) → Comes r (applied c (branch c (part c.run.page start stop)))
+      pub branch_lacking : g ≡ Lacking → ((d : Card) → Is m d → judge d.run.page ≡ Ok tt → Comes r (applied d (refuses Anchor))) → Comes r (applied c (branch c (part c.run.page start stop)))
       unfolding branch_by
       branch_lacking b f = rw (branch_is, b) (f c is ok)
 
-      pub branch_other : g ≡ Other → length (part c.run.page start stop) ≤ 65 → ((d : Card) → Is m d → judge d.run.page ≡ Accepted → length (part d.run.page start stop) ≤ 65 → Comes r (moved d (away (part d.run.page start stop)))) → Comes r (applied c (branch c (part c.run.page start stop)))
+      pub branch_other : g ≡ Other → length (part c.run.page start stop) ≤ 65 → ((d : Card) → Is m d → judge d.run.page ≡ Ok tt → length (part d.run.page start stop) ≤ 65 → Comes r (moved d (away (part d.run.page start stop)))) → Comes r (applied c (branch c (part c.run.page start stop)))
       unfolding branch_by applied
       branch_other b l f = rw (branch_is, b) (f c is ok l)
 
-  module _ (ok : judge c.run.page ≡ Accepted) (next : ℕ) (a : Action) (r : Moved) where
-    pub perform_pass : a ≡ Pass → ((d : Card) → Is m d → judge d.run.page ≡ Accepted → Comes r (moved d finish)) → Comes r (applied c (perform c next finish a))
+  module _ (ok : judge c.run.page ≡ Ok tt) (next : ℕ) (a : Action) (r : Moved) where
+    pub perform_end : (a ≡ Pass) ⊎ ((a ≡ Quit) ⊎ (a ≡ Retry)) → ((d : Card) → Is m d → judge d.run.page ≡ Ok tt → Comes r (moved d finish)) → Comes r (applied c (perform c next finish a))
     unfolding perform applied
-    perform_pass x f = rw x (f c is ok)
-
-    pub perform_quit : a ≡ Quit → ((d : Card) → Is m d → judge d.run.page ≡ Accepted → Comes r (moved d finish)) → Comes r (applied c (perform c next finish a))
-    unfolding perform applied
-    perform_quit x f = rw x (f c is ok)
-
-    pub perform_retry : a ≡ Retry → ((d : Card) → Is m d → judge d.run.page ≡ Accepted → Comes r (moved d finish)) → Comes r (applied c (perform c next finish a))
-    unfolding perform applied
-    perform_retry x f = rw x (f c is ok)
+    perform_end (inl x) f = rw x (f c is ok)
+    perform_end (inr (inl x)) f = rw x (f c is ok)
+    perform_end (inr (inr x)) f = rw x (f c is ok)
 
     pub perform_next : a ≡ Next → ((d : Card) → Is m d → Comes r (moved d (onwards next))) → Comes r (applied c (perform c next finish a))
     unfolding perform applied
     perform_next x f = rw x (f c is)
 
-    pub perform_back : a ≡ Back → history_fine c.history ≡ true → ((d : Card) → Is m d → judge d.run.page ≡ Accepted → history_fine d.history ≡ true → Comes r (moved d back)) → Comes r (applied c (perform c next finish a))
+    pub perform_back : a ≡ Back → history_fine c.history ≡ true → ((d : Card) → Is m d → judge d.run.page ≡ Ok tt → history_fine d.history ≡ true → Comes r (moved d back)) → Comes r (applied c (perform c next finish a))
     unfolding perform applied
     perform_back x h f = rw x (f c is ok h)
 
-    pub perform_go : (start stop : ℕ) → a ≡ Go start stop → Bounded c.run.page a → ((d : Card) → Is m d → judge d.run.page ≡ Accepted → length (part d.run.page start stop) ≤ 65 → Comes r (applied d (branch d (part d.run.page start stop)))) → Comes r (applied c (perform c next finish a))
+    pub perform_go : (start stop : ℕ) → a ≡ Go start stop → Bounded c.run.page a → ((d : Card) → Is m d → judge d.run.page ≡ Ok tt → length (part d.run.page start stop) ≤ 65 → Comes r (applied d (branch d (part d.run.page start stop)))) → Comes r (applied c (perform c next finish a))
     unfolding perform
     perform_go start stop x b f = rw x (f c is ok (rw x at b))
 

@@ -5,7 +5,6 @@ use mathlib.Core.Bool.{true}
 use mathlib.Core.List.{List, [], ◌∷◌}
 use mathlib.Core.Path.{◌≡◌, ap, ◌∙◌}
 use lib.ListN.{set, take}
-use Rattle.rules.specs.declared.Judged.TheVariants.{Accepted}
 use Rattle.rules.specs.Numbers.{no_error}
 use Rattle.rules.specs.Bytes.{hex, hex_to}
 use Rattle.rules.specs.Loader.{judge}
@@ -21,6 +20,7 @@ use Rattle.leaving.proofs.Accepted.{left_by_lem}
 use Rattle.state.specs.declared.State.{State}
 use Rattle.state.specs.State.{Is, page_of}
 use Rattle.state.proofs.Changes.{new_environment, new_history, new_place}
+use Rattle.std.specs.Prelude.{Ok}
 
 module _ (m : State) (c : Card) (is : Is m c) where
   -- a state goes on in a unit, with no command in hand
@@ -43,7 +43,7 @@ module _ (m : State) (c : Card) (is : Is m c) where
       placed_is p hand idle i = rw (← is.unit) (new_place _ (marked no_error c) noted hand empty m.unit p idle i)
 
       module _ (trail : List ℕ) (i : tidy_trail m.trail ≡ true → tidy_trail trail ≡ true) where
-        pub left_is : judge c.run.page ≡ Accepted → (judge (take m.len m.page) ≡ Accepted → history_of trail ≡ left_by (entry_for (take m.len m.page) m.unit) (history_of m.trail))
+        pub left_is : judge c.run.page ≡ Ok tt → (judge (take m.len m.page) ≡ Ok tt → history_of trail ≡ left_by (entry_for (take m.len m.page) m.unit) (history_of m.trail))
             → Is (record { page = m.page; len = m.len; environment = environment; temporary = m.temporary; permanent = m.permanent; trail = trail; guard = m.guard; hand = m.hand; wanted = m.wanted; unit = m.unit; place = m.place }) (leaving (marked no_error c))
         unfolding leaving marked with_environment page_of
         left_is ok h =

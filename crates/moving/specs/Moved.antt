@@ -1,5 +1,5 @@
 -- What a move comes to.
-use Rattle.std.specs.Prelude.{ℕ, ◌≤◌, ◌≡◌, List, length}
+use Rattle.std.specs.Prelude.{ℕ, ◌≤◌, ◌≡◌, List, [], ◌∷◌, length, Option, Some, None}
 use Rattle.rules.specs.Bytes.{part}
 use Rattle.rules.specs.Step.{Effect}
 use Rattle.rules.specs.declared.Action.{Action}
@@ -20,3 +20,8 @@ Bounded s Quit = Unit {0}
 Bounded s Back = Unit {0}
 Bounded s Retry = Unit {0}
 Bounded s (Go start stop) = length (part s start stop) ≤ 65
+
+-- a refusal's code by its second byte, where it has one
+unfoldable pub code_by : Option ℕ → List ℕ
+code_by (Some low) = 0x6F ∷ low ∷ []
+code_by None = []

@@ -1,8 +1,7 @@
 // Where a byte code leads: on in its unit, to a unit of its page, to another page, back, or to the page's end (clauses 4.6, 8.4 and 12).
 #![tactic(auto)]
 
-ghost use Rattle.std.specs.Prelude.{◌≡◌, true, cond, ◌∷◌, [], ◌≤◌, length, set, take, eqb};
-ghost use Rattle.rules.specs.declared.Judged.TheVariants.{Accepted};
+ghost use Rattle.std.specs.Prelude.{◌≡◌, true, ◌≤◌, length, set, take, Ok};
 ghost use Rattle.rules.specs.declared.Outcome.TheVariants.{On, Ended};
 ghost use Rattle.rules.specs.Numbers.{code};
 ghost use Rattle.rules.specs.Bytes.{part};
@@ -15,7 +14,7 @@ ghost use Rattle.rules.specs.Step.{effect, entered, wanting, moved, onwards, jum
 ghost use Rattle.slots.specs.Slots.{slots, tidy_slots};
 ghost use Rattle.word.specs.Word.{word_in, tidy_wanted};
 ghost use Rattle.state.specs.State.{Is};
-ghost use Rattle.moving.specs.Moved.{Comes, Bounded};
+ghost use Rattle.moving.specs.Moved.{Comes, Bounded, code_by};
 
 use rules::{Action, Outcome, Refusal, Target};
 use state::State;
@@ -27,41 +26,37 @@ pub struct Moved {
     pub outcome: Outcome,
 }
 
-// The second byte of a refusal's code; 0 where it has none (12.3).
-fn code_low(why: Refusal) -> u8
-    ensures { code why ≡ cond (eqb result 0) [] (0x6F ∷ result ∷ []) }
+// The second byte of a refusal's code, where it has one (12.3).
+#[tactic(auto, using(crate::proofs::MoveLaws::low_as), unfolding(crate::specs::Moved::code_by, rules::specs::Numbers::code, rules::specs::Bytes::hex, rules::specs::Bytes::hex_to))]
+fn code_low(why: Refusal) -> Option<u8>
+    ensures { code why ≡ code_by result }
 {
     match why {
-        Refusal::Syntax => 1,
-        Refusal::Variable => 5,
-        Refusal::Anchor => 2,
-        Refusal::Memory => 3,
-        Refusal::Security => 4,
-        Refusal::Disallowed => 10,
-        Refusal::Buffer => 0,
-        Refusal::Call => 0,
-        Refusal::Response => 0,
-        Refusal::State => 0,
+        Refusal::Syntax => Some(1),
+        Refusal::Variable => Some(5),
+        Refusal::Anchor => Some(2),
+        Refusal::Memory => Some(3),
+        Refusal::Security => Some(4),
+        Refusal::Disallowed => Some(10),
+        Refusal::Buffer | Refusal::Call | Refusal::Response | Refusal::State => None,
     }
 }
 
 // Variable '05' becomes the code of a refusal.
+#[tactic(auto, using(crate::proofs::MoveLaws::note_laws))]
 pub fn note_refusal(environment: &mut [u8; 16640], why: Refusal)
     ensures environment_after { slots environment.new ≡ set (slots environment.old) 5 (held 3 (code why)) }
     ensures environment_after_2 { tidy_slots environment.old ≡ true → tidy_slots environment.new ≡ true }
 {
-    let low = code_low(why);
-    let bytes = [0x6F, low];
-    if low == 0 {
-        slots::write_slot(environment, 5, 3, &bytes[0..0]);
-        return;
+    match code_low(why) {
+        Some(low) => slots::write_slot(environment, 5, 3, &[0x6F, low]),
+        None => slots::write_slot(environment, 5, 3, &[]),
     }
-    slots::write_slot(environment, 5, 3, &bytes);
 }
 
 // A refused byte code: '05', the keep rule, and no page runs.
 pub fn fail(mut state: State, why: Refusal) -> Moved
-    ensures { (c : Card) → Is state c → judge c.run.page ≡ Accepted → Comes result (applied c (refuses why)) }
+    ensures { (c : Card) → Is state c → judge c.run.page ≡ Ok tt → Comes result (applied c (refuses why)) }
 {
     note_refusal(&mut state.environment, why);
     Moved {
@@ -72,7 +67,7 @@ pub fn fail(mut state: State, why: Refusal) -> Moved
 
 // The page ends at a unit's end.
 pub fn run_out(state: State) -> Moved
-    ensures { (c : Card) → Is state c → judge c.run.page ≡ Accepted → Comes result (effect Ended (rested c)) }
+    ensures { (c : Card) → Is state c → judge c.run.page ≡ Ok tt → Comes result (effect Ended (rested c)) }
 {
     Moved {
         state: state::rest(state),
@@ -95,7 +90,7 @@ pub fn go_on(mut state: State, place: usize) -> Moved
 
 // The page ends after its last byte code.
 pub fn end(mut state: State) -> Moved
-    ensures { (c : Card) → Is state c → judge c.run.page ≡ Accepted → Comes result (moved c finish) }
+    ensures { (c : Card) → Is state c → judge c.run.page ≡ Ok tt → Comes result (moved c finish) }
 {
     state::note(&mut state.environment, 0, 0);
     Moved {
@@ -120,7 +115,7 @@ fn enter(mut state: State, k: usize) -> Moved
 
 // A branch to a unit of the page.
 pub fn jump_to(mut state: State, k: usize) -> Moved
-    ensures { (c : Card) → Is state c → judge c.run.page ≡ Accepted → Comes result (moved c (jump k)) }
+    ensures { (c : Card) → Is state c → judge c.run.page ≡ Ok tt → Comes result (moved c (jump k)) }
 {
     state::note(&mut state.environment, 0, 0);
     let mut entry = [0u8; 65];
@@ -134,6 +129,7 @@ pub fn jump_to(mut state: State, k: usize) -> Moved
 }
 
 // A reference to keep for the host. No accepted page and no history has one of more than 65 bytes.
+#[tactic(auto, using(crate::proofs::MoveLaws::want_laws))]
 pub fn want(wanted: &mut [u8; 66], reference: &[u8])
     ensures wanted_after { length reference.now ≤ 65 → word_in wanted.new ≡ reference.now }
     ensures wanted_after_2 { tidy_wanted wanted.old ≡ true → tidy_wanted wanted.new ≡ true }
@@ -146,7 +142,7 @@ pub fn want(wanted: &mut [u8; 66], reference: &[u8])
 
 // Another page is wanted.
 fn fetch(mut state: State, reference: &[u8]) -> Moved
-    ensures { (c : Card) → Is state c → judge c.run.page ≡ Accepted → length reference.now ≤ 65 → Comes result (wanting c reference.now) }
+    ensures { (c : Card) → Is state c → judge c.run.page ≡ Ok tt → length reference.now ≤ 65 → Comes result (wanting c reference.now) }
 {
     want(&mut state.wanted, reference);
     Moved {
@@ -157,7 +153,7 @@ fn fetch(mut state: State, reference: &[u8]) -> Moved
 
 // A branch to another page.
 fn go_away(mut state: State, reference: &[u8]) -> Moved
-    ensures { (c : Card) → Is state c → judge c.run.page ≡ Accepted → length reference.now ≤ 65 → Comes result (moved c (away reference.now)) }
+    ensures { (c : Card) → Is state c → judge c.run.page ≡ Ok tt → length reference.now ≤ 65 → Comes result (moved c (away reference.now)) }
 {
     state::note(&mut state.environment, 0, 0);
     let mut entry = [0u8; 65];
@@ -172,7 +168,7 @@ fn go_away(mut state: State, reference: &[u8]) -> Moved
 
 // Back to the entry at the pointer; the page ends where there is nothing to return to (8.4).
 pub fn go_back(mut state: State) -> Moved
-    ensures { (c : Card) → Is state c → judge c.run.page ≡ Accepted → history_fine c.history ≡ true → Comes result (moved c back) }
+    ensures { (c : Card) → Is state c → judge c.run.page ≡ Ok tt → history_fine c.history ≡ true → Comes result (moved c back) }
 {
     state::note(&mut state.environment, 0, 0);
     if trail::pointer_of(&state.trail) == 0 {
@@ -183,12 +179,12 @@ pub fn go_back(mut state: State) -> Moved
     trail::lower(&mut state.trail);
     match reference::target(state::page_of(&state.page, state.len), entry) {
         Target::Unit(k) => enter(state, k),
-        Target::Lacking => fetch(state, entry),
-        Target::Other => fetch(state, entry),
+        Target::Lacking | Target::Other => fetch(state, entry),
     }
 }
 
 // What the reference that stands in the page from a place up to another means there.
+#[tactic(auto, using(crate::proofs::MoveLaws::target_at_is))]
 fn target_at(page: &[u8; 4096], len: usize, start: usize, stop: usize) -> Target
     ensures { result ≡ target (take len page.now) (part (take len page.now) start stop) }
 {
@@ -198,7 +194,7 @@ fn target_at(page: &[u8; 4096], len: usize, start: usize, stop: usize) -> Target
 
 // A branch to another page, by the reference from a place up to another.
 fn depart(state: State, start: usize, stop: usize) -> Moved
-    ensures { (c : Card) → Is state c → judge c.run.page ≡ Accepted → length (part c.run.page start stop) ≤ 65 → Comes result (moved c (away (part c.run.page start stop))) }
+    ensures { (c : Card) → Is state c → judge c.run.page ≡ Ok tt → length (part c.run.page start stop) ≤ 65 → Comes result (moved c (away (part c.run.page start stop))) }
 {
     let page = state.page;
     let reference = slice::part_of(state::page_of(&page, state.len), start, stop);
@@ -207,7 +203,7 @@ fn depart(state: State, start: usize, stop: usize) -> Moved
 
 // A branch by the reference that stands in the page from a place up to another.
 pub fn branch_to(state: State, start: usize, stop: usize) -> Moved
-    ensures { (c : Card) → Is state c → judge c.run.page ≡ Accepted → length (part c.run.page start stop) ≤ 65 → Comes result (applied c (branch c (part c.run.page start stop))) }
+    ensures { (c : Card) → Is state c → judge c.run.page ≡ Ok tt → length (part c.run.page start stop) ≤ 65 → Comes result (applied c (branch c (part c.run.page start stop))) }
 {
     match target_at(&state.page, state.len, start, stop) {
         Target::Unit(k) => jump_to(state, k),
@@ -218,14 +214,12 @@ pub fn branch_to(state: State, start: usize, stop: usize) -> Moved
 
 // What the handler's action does; a retry with no command in hand ends the page.
 pub fn perform(state: State, next: usize, action: Action) -> Moved
-    ensures { (c : Card) → Is state c → judge c.run.page ≡ Accepted → history_fine c.history ≡ true → Bounded c.run.page action → Comes result (applied c (perform c next finish action)) }
+    ensures { (c : Card) → Is state c → judge c.run.page ≡ Ok tt → history_fine c.history ≡ true → Bounded c.run.page action → Comes result (applied c (perform c next finish action)) }
 {
     match action {
-        Action::Pass => end(state),
+        Action::Pass | Action::Quit | Action::Retry => end(state),
         Action::Next => go_on(state, next),
-        Action::Quit => end(state),
         Action::Back => go_back(state),
-        Action::Retry => end(state),
         Action::Go(start, stop) => branch_to(state, start, stop),
     }
 }

@@ -4,15 +4,14 @@
 //     bits 8 to 15    the outcome of a step, a run or a response; the type of a value read
 //     bits 16 to 31   the offset of a refused load; the command's length; the length of a value read
 //     bits 32 to 63   the count of a run; of a step the unit, and its tag from bit 40 on
-#![tactic(auto)]
+#![tactic(auto, unfolding(rules::specs::Numbers::number, rules::specs::Numbers::told_number, rules::specs::Numbers::loaded_number, rules::specs::Numbers::outcome_number, rules::specs::Numbers::offset, rules::specs::Calls::answer_number, crate::specs::Packed::outcome_kind, crate::specs::Packed::command_length, crate::specs::Packed::kind_of, crate::specs::Packed::size_of, crate::specs::Packed::high_of, crate::specs::Packed::packed, crate::specs::Packed::packed_outcome))]
 
 ghost use Rattle.std.specs.Prelude.{◌≡◌, List, ℕ, ◌+◌, ◌*◌, ◌<◌, ltb};
 ghost use Rattle.rules.specs.Numbers.{number as Numbers·number, offset, outcome_number};
 ghost use Rattle.rules.specs.Calls.{told as Calls·told, loaded as Calls·loaded, taken, ran as Calls·ran, responded, shown as Calls·shown};
 ghost use Rattle.packing.specs.Packed.{laid, command_length, packed_outcome, packed};
 
-use leaf::wide;
-use rules::{Loaded, Outcome, Ran, Refusal, Shown, Stepped, Told};
+use rules::{LoadError, Outcome, Ran, Refusal, Shown, Stepped};
 
 // The number of a refusal.
 pub fn number(why: Refusal) -> u8
@@ -36,7 +35,7 @@ fn lay(number: u8, kind: u8, size: usize, high: usize) -> u64
     requires { (size < 65536) × (high < 4294967296) }
     ensures { result ≡ laid number kind size high }
 {
-    number as u64 + 256 * kind as u64 + 65536 * size as u64 + 4294967296 * high as u64
+    u64::from(number) + 256 * u64::from(kind) + 65536 * size as u64 + 4294967296 * high as u64
 }
 
 fn lay_outcome(outcome: Outcome, high: usize) -> u64
@@ -57,31 +56,30 @@ pub fn writes(outcome: Outcome) -> bool
     ensures { result ≡ ltb (outcome_number outcome) 32 }
 {
     match outcome {
-        Outcome::On => true,
-        Outcome::Command(length) => true,
-        Outcome::Page => true,
-        Outcome::Ended => true,
         Outcome::Refused(why) => number(why) < 32,
+        Outcome::On | Outcome::Command(_) | Outcome::Page | Outcome::Ended => true,
     }
 }
 
-pub fn pack_told(told: Told) -> u64
+pub fn pack_told(told: Result<(), Refusal>) -> u64
     ensures { result ≡ packed (Calls·told told) }
 {
     match told {
-        Told::Done => 0,
-        Told::Undone(why) => lay(number(why), 0, 0, 0),
+        Ok(()) => 0,
+        Err(why) => lay(number(why), 0, 0, 0),
     }
 }
 
-pub fn pack_loaded(loaded: Loaded) -> u64
+pub fn pack_loaded(loaded: Result<(), LoadError>) -> u64
     requires { offset loaded < 65536 }
     ensures { result ≡ packed (Calls·loaded loaded) }
 {
-    match loaded {
-        Loaded::Started => 0,
-        Loaded::Faulty(class, at) => lay(class, 0, at, 0),
-        Loaded::Unloaded(why) => lay(number(why), 0, 0, 0),
+    let Err(error) = loaded else {
+        return 0;
+    };
+    match error {
+        LoadError::Faulty(rejection) => lay(rejection.class, 0, rejection.place, 0),
+        LoadError::Unloaded(why) => lay(number(why), 0, 0, 0),
     }
 }
 
@@ -89,16 +87,17 @@ pub fn pack_stepped(stepped: Stepped) -> u64
     requires { (command_length stepped.outcome < 65536) × (stepped.unit < 65536) }
     ensures { (buffer reference : List ℕ) → result ≡ packed (taken stepped buffer reference) }
 {
-    let outcome = stepped.outcome;
-    lay_outcome(outcome, stepped.unit + 256 * wide(stepped.tag))
+    lay_outcome(
+        stepped.outcome,
+        stepped.unit + 256 * usize::from(stepped.tag),
+    )
 }
 
 pub fn pack_ran(ran: Ran) -> u64
     requires { (command_length ran.outcome < 65536) × (ran.count < 4294967296) }
     ensures { (buffer reference : List ℕ) → result ≡ packed (Calls·ran ran buffer reference) }
 {
-    let outcome = ran.outcome;
-    lay_outcome(outcome, ran.count)
+    lay_outcome(ran.outcome, ran.count)
 }
 
 pub fn pack_responded(outcome: Outcome) -> u64

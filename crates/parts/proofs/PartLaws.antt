@@ -8,7 +8,6 @@ use native.Mathlib.Omega.{arith}
 use lib.ListN.{length, take, set}
 use lib.Dec.{eqb}
 use borrow.Author.Tests.{eq-eqb, ne_eqb}
-use Rattle.rules.specs.declared.Judged.TheVariants.{Accepted}
 use Rattle.rules.specs.declared.Target.{Target}
 use Rattle.rules.specs.declared.Target.TheVariants.{Unit as OwnUnit, Lacking, Other}
 use Rattle.rules.specs.Bytes.{part}
@@ -34,6 +33,7 @@ use Rattle.parts.specs.declared.Turn.TheVariants.{Nowhere, Unit, Page}
 use Rattle.parts.specs.Parts.{command_of, turn_to, turn_of}
 use Rattle.trail.specs.Trail.{history_of}
 use Rattle.leaving.specs.Leaving.{entry_for, left_by}
+use Rattle.std.specs.Prelude.{Ok}
 
 module _ (done : Bool) (before after : List ℕ) where
   pub note_done : done ≡ true → slots after ≡ set (slots before) 5 (held 3 (0 ∷ 0 ∷ [])) → slots after ≡ cond done (set (slots before) 5 (held 3 (0 ∷ 0 ∷ []))) (slots before)
@@ -44,7 +44,7 @@ module _ (done : Bool) (before after : List ℕ) where
 
 pub ruleset note_laws = (note_done, note_undone)
 
-pub left_is : (s page entry : List ℕ) (n unit : ℕ) (before after : List ℕ) → s ≡ page → (judge s ≡ Accepted → take n entry ≡ entry_for s unit) → history_of after ≡ left_by (take n entry) (history_of before) → (judge page ≡ Accepted → history_of after ≡ left_by (entry_for page unit) (history_of before))
+pub left_is : (s page entry : List ℕ) (n unit : ℕ) (before after : List ℕ) → s ≡ page → (judge s ≡ Ok tt → take n entry ≡ entry_for s unit) → history_of after ≡ left_by (take n entry) (history_of before) → (judge page ≡ Ok tt → history_of after ≡ left_by (entry_for page unit) (history_of before))
 left_is s page entry n unit before after p q e ok = rw (e, q (rw p ok), p) refl
 
 module _ (s page after : List ℕ) (e : s ≡ page) where

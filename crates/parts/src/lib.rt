@@ -1,8 +1,7 @@
 // What a byte code does to the parts of a state, each lent by itself: endings, the history, the areas, a command that goes out.
 #![tactic(auto)]
 
-ghost use Rattle.std.specs.Prelude.{◌≡◌, true, false, cond, ◌∷◌, [], ℕ, ◌≤◌, ◌<◌, length, take, set};
-ghost use Rattle.rules.specs.declared.Judged.TheVariants.{Accepted};
+ghost use Rattle.std.specs.Prelude.{◌≡◌, true, false, cond, is_ok, ◌∷◌, [], ℕ, ◌≤◌, ◌<◌, length, take, set, Ok};
 ghost use Rattle.rules.specs.Bytes.{part};
 ghost use Rattle.rules.specs.Loader.{judge};
 ghost use Rattle.rules.specs.Tlvs.{tlvs};
@@ -25,8 +24,10 @@ ghost use Rattle.leaving.specs.Leaving.{entry_for, left_by};
 ghost use Rattle.parts.specs.declared.Turn.TheVariants.{Nowhere, Unit as UnitAt, Page};
 ghost use Rattle.parts.specs.Parts.{laid, command_of, turn_to, turn_of};
 
-use rules::{Outcome, Ran, Target};
+use rules::{Outcome, Ran, Target, Tlv};
 use state::State;
+use variable::View;
+use writing::NoMemory;
 
 // The state after a run, with what ended it and the steps that it took.
 #[derive(Clone, Copy)]
@@ -44,6 +45,7 @@ pub enum Turn {
 }
 
 // A branch leaves a unit: '05' becomes '0000', and the unit is added to the history.
+#[tactic(auto, using(crate::proofs::PartLaws::left_is))]
 pub fn leave_unit(
     environment: &mut [u8; 16640],
     trail: &mut [u8; 1058],
@@ -51,7 +53,7 @@ pub fn leave_unit(
     len: usize,
     unit: usize,
 )
-    ensures trail_after { judge (take len page.now) ≡ Accepted → history_of trail.new ≡ left_by (entry_for (take len page.now) unit) (history_of trail.old) }
+    ensures trail_after { judge (take len page.now) ≡ Ok tt → history_of trail.new ≡ left_by (entry_for (take len page.now) unit) (history_of trail.old) }
     ensures trail_after_2 { tidy_trail trail.old ≡ true → tidy_trail trail.new ≡ true }
     ensures environment_after { slots environment.new ≡ set (slots environment.old) 5 (held 3 (0 ∷ 0 ∷ [])) }
     ensures environment_after_2 { tidy_slots environment.old ≡ true → tidy_slots environment.new ≡ true }
@@ -63,6 +65,7 @@ pub fn leave_unit(
 }
 
 // '05' becomes '0000' where a byte code ended the page.
+#[tactic(auto, using(crate::proofs::PartLaws::note_laws))]
 pub fn note_end(environment: &mut [u8; 16640], done: bool)
     ensures environment_after { slots environment.new ≡ cond done (set (slots environment.old) 5 (held 3 (0 ∷ 0 ∷ []))) (slots environment.old) }
     ensures environment_after_2 { tidy_slots environment.old ≡ true → tidy_slots environment.new ≡ true }
@@ -119,28 +122,23 @@ pub fn send_command<'a>(
     env: &'a [u8; 16640],
     temp: &'a [u8; 16640],
     perm: &'a [u8; 17920],
-    tag: u8,
-    start: usize,
-    stop: usize,
+    tlv: Tlv,
     hand: &mut [u8; 257],
     out: &mut [u8],
 ) -> usize
-    requires { (start ≤ stop) × (stop ≤ length (take len page.now)) × (255 ≤ length out.old) }
-    ensures value { result ≡ length (command_of (take len page.now) env.now temp.now perm.now tag start stop) }
-    ensures hand_after { result ≤ 255 → (hand.new ≡ laid_marked 257 (command_of (take len page.now) env.now temp.now perm.now tag start stop)) × (out.new ≡ poured out.old 0 (command_of (take len page.now) env.now temp.now perm.now tag start stop)) }
+    requires { (tlv.start ≤ tlv.stop) × (tlv.stop ≤ length (take len page.now)) × (255 ≤ length out.old) }
+    ensures value { result ≡ length (command_of (take len page.now) env.now temp.now perm.now tlv.tag tlv.start tlv.stop) }
+    ensures hand_after { result ≤ 255 → (hand.new ≡ laid_marked 257 (command_of (take len page.now) env.now temp.now perm.now tlv.tag tlv.start tlv.stop)) × (out.new ≡ poured out.old 0 (command_of (take len page.now) env.now temp.now perm.now tlv.tag tlv.start tlv.stop)) }
     ensures hand_unchanged { 255 < result → (hand.new ≡ hand.old) × (out.new ≡ out.old) }
 {
     let mut command: [u8; 256] = [0; 256];
-    let n = command::command_into(
-        state::page_of(page, len),
-        env,
-        temp,
-        perm,
-        tag,
-        start,
-        stop,
-        &mut command,
-    );
+    let view = View {
+        page: state::page_of(page, len),
+        environment: env,
+        temporary: temp,
+        permanent: perm,
+    };
+    let n = command::command_into(view, tlv, &mut command);
     if 255 < n {
         return n;
     }
@@ -206,6 +204,7 @@ pub fn turn_back(
 }
 
 // The first byte code of a unit.
+#[tactic(auto, using(crate::proofs::PartLaws::entry_lent))]
 pub fn entry_at(page: &[u8; 4096], len: usize, k: usize) -> usize
     ensures { result ≡ entry_of (take len page.now) k }
 {
@@ -213,6 +212,7 @@ pub fn entry_at(page: &[u8; 4096], len: usize, k: usize) -> usize
 }
 
 // The pairs of a Set Variable, all or none.
+#[tactic(auto, using(storing::proofs::StoreLaws::bound_laws, crate::proofs::PartLaws::set_lent))]
 pub fn set_all<'a>(
     page: &'a [u8; 4096],
     len: usize,
@@ -221,10 +221,10 @@ pub fn set_all<'a>(
     perm: &mut [u8; 17920],
     start: usize,
     stop: usize,
-) -> bool
+) -> Result<(), NoMemory>
     requires { (start ≤ stop) × (stop ≤ length (take len page.now)) × (length (service (take len page.now)) ≤ 16) }
-    ensures perm_value { set_all (tlvs 1 (take len page.now) start stop) (view (take len page.now) env.now temp.old perm.old) ≡ cond result (wrote (view (take len page.now) env.now temp.new perm.new)) no_room }
-    ensures temp_unchanged { result ≡ false → (temp.new ≡ temp.old) × (perm.new ≡ perm.old) }
+    ensures perm_value { set_all (tlvs 1 (take len page.now) start stop) (view (take len page.now) env.now temp.old perm.old) ≡ cond (is_ok result) (wrote (view (take len page.now) env.now temp.new perm.new)) no_room }
+    ensures temp_unchanged { is_ok result ≡ false → (temp.new ≡ temp.old) × (perm.new ≡ perm.old) }
     ensures temp_after { tidy_slots temp.old ≡ true → tidy_slots temp.new ≡ true }
     ensures perm_after { tidy_records perm.old ≡ true → tidy_records perm.new ≡ true }
 {
@@ -232,6 +232,7 @@ pub fn set_all<'a>(
 }
 
 // The length of a list, stored or not.
+#[tactic(auto, using(storing::proofs::StoreLaws::bound_laws, crate::proofs::PartLaws::length_lent))]
 pub fn set_length<'a>(
     page: &'a [u8; 4096],
     len: usize,
@@ -241,10 +242,10 @@ pub fn set_length<'a>(
     n: u8,
     from: usize,
     to: usize,
-) -> bool
+) -> Result<(), NoMemory>
     requires { (to ≤ length (take len page.now)) × (length (service (take len page.now)) ≤ 16) }
-    ensures to_value { write (view (take len page.now) env.now temp.old perm.old) n 3 (shortest (length (joined (view (take len page.now) env.now temp.old perm.old) (named (part (take len page.now) from to))))) ≡ cond result (wrote (view (take len page.now) env.now temp.new perm.new)) no_room }
-    ensures temp_unchanged { result ≡ false → (temp.new ≡ temp.old) × (perm.new ≡ perm.old) }
+    ensures to_value { write (view (take len page.now) env.now temp.old perm.old) n 3 (shortest (length (joined (view (take len page.now) env.now temp.old perm.old) (named (part (take len page.now) from to))))) ≡ cond (is_ok result) (wrote (view (take len page.now) env.now temp.new perm.new)) no_room }
+    ensures temp_unchanged { is_ok result ≡ false → (temp.new ≡ temp.old) × (perm.new ≡ perm.old) }
     ensures temp_after { tidy_slots temp.old ≡ true → tidy_slots temp.new ≡ true }
     ensures perm_after { tidy_records perm.old ≡ true → tidy_records perm.new ≡ true }
 {

@@ -4,9 +4,10 @@
 ghost use Rattle.std.specs.Prelude.{◌≡◌, ◌≤◌, length};
 ghost use Rattle.piece.specs.Piece.{piece_at, contents_at};
 
-use rules::Pair;
+use rules::{Pair, Tlv};
 
 // The piece at a place, before an end: of a list the next number, else the next pair.
+#[tactic(auto, using(crate::proofs::PieceLaws::piece_laws))]
 pub fn piece_at(list: bool, s: &[u8], at: usize, end: usize) -> Pair
     requires { end ≤ length s.now }
     ensures { result ≡ piece_at list s.now at end }
@@ -21,12 +22,14 @@ pub fn piece_at(list: bool, s: &[u8], at: usize, end: usize) -> Pair
 }
 
 // Where the pieces of a value start.
-pub fn contents_at(s: &[u8], tag: u8, start: usize, stop: usize) -> usize
-    requires { stop ≤ length s.now }
-    ensures { result ≡ contents_at s.now tag start stop }
+#[tactic(auto, using(crate::proofs::PieceLaws::piece_laws))]
+pub fn contents_at(s: &[u8], tlv: Tlv) -> usize
+    requires { tlv.stop ≤ length s.now }
+    ensures { result ≡ contents_at s.now tlv.tag tlv.start tlv.stop }
 {
-    if tag == 0x0D {
-        return start;
+    if tlv.tag == 0x0D {
+        tlv.start
+    } else {
+        tlv::content_at(s, tlv)
     }
-    tlv::content_at(s, tag, start, stop)
 }

@@ -9,6 +9,8 @@ use native.Mathlib.Omega.{arith}
 use native.Mathlib.Nat.{sub-zero, zero-add, zero-mul, suc-mul, add_comm, mul-le-mul_right}
 use lib.ListN.{length, get_or, set, take, drop, replicate, length-drop, take-append-drop, drop_of_length-le, replicate-append-replicate, length-replicate}
 use lib.Seq.{take_at, drop_at, take-add, drop-drop, take-append-le, drop-append-le, length-take-le, drop-cons, take-take, take-nil, get_or-take, get_or-drop}
+use Rattle.std.specs.Prelude.{IsTrue, ◌↔◌, EachIndex, map}
+use Rattle.std.specs.Simd.{first_chunks}
 use Rattle.pour.specs.Pour.{poured, blank}
 use Rattle.pour.specs.Stride.{each, all}
 
@@ -153,6 +155,35 @@ module _ (t : List ℕ → Bool) (n w : ℕ) (a : List ℕ) (k : ℕ) (whole : B
 
     pub all_less : r ≡ false → false ≡ whole
     all_less f = sym (rw f at step) ∙ inv
+
+-- two tests of which each passes where the other does
+pub told : (r z : Bool) → (r ≡ true → z ≡ true) → (z ≡ true → r ≡ true) → r ≡ z
+told true z f g = sym (f refl)
+told false true f g = g refl
+told false false f g = refl
+
+-- what each piece means, by the pieces as the library cuts them
+each_cut : {A : Type 0} (f : List ℕ → A) (n w : ℕ) (a : List ℕ) → map f (first_chunks w n a) ≡ each f n w a
+unfolding each
+each_cut f zero w a = refl
+each_cut {A} f (suc n) w a = ap (λ (l : List A). f (take w a) ∷ l) (each_cut f n w (drop w a))
+
+all_passed : (t : List ℕ → Bool) (ps : List (List ℕ)) → EachIndex ps (λ k. IsTrue (t (get_or ps k []))) → all (map t ps) ≡ true
+unfolding all
+all_passed t [] h = refl
+all_passed t (p ∷ ps) h = rw (h 0 (omega arith)) (all_passed t ps (λ k l. h (suc k) (omega arith)))
+
+passed : (t : List ℕ → Bool) (ps : List (List ℕ)) → all (map t ps) ≡ true → EachIndex ps (λ k. IsTrue (t (get_or ps k [])))
+unfolding all
+passed t [] e k l = absurd (omega arith)
+passed t (p ∷ ps) e zero l = all_first (t p) (all (map t ps)) e
+passed t (p ∷ ps) e (suc k) l = passed t ps (all_rest (t p) (all (map t ps)) e) k (omega arith)
+
+-- an answer that is yes where each piece passes
+pub all_by : (t : List ℕ → Bool) (n w : ℕ) (a : List ℕ) (ps : List (List ℕ)) → ps ≡ first_chunks w n a → (r : Bool) → (IsTrue r ↔ EachIndex ps (λ k. IsTrue (t (get_or ps k [])))) → r ≡ all (each t n w a)
+all_by t n w a ps e r h =
+    let m : map t ps ≡ each t n w a = ap (map t) e ∙ each_cut t n w a in
+    told r (all (each t n w a)) (λ x. sym (ap all m) ∙ all_passed t ps (h.0 x)) (λ x. h.1 (passed t ps (ap all m ∙ x)))
 
 all_set : (xs : List Bool) (k : ℕ) → all xs ≡ true → all (set xs k true) ≡ true
 unfolding all

@@ -1,4 +1,4 @@
-// Bytes copied into what is lent. Each loop stands here once: a copy at any length is a part of a slice lent to it.
+// Bytes copied into what is lent: a copy at any length is a part of a slice lent to it.
 #![tactic(auto)]
 
 ghost use Rattle.std.specs.Prelude.{◌≡◌, ◌+◌, ◌≤◌, length};
@@ -9,25 +9,18 @@ pub fn copy(dst: &mut [u8], src: &[u8])
     requires { length dst.old ≡ length src.now }
     ensures { dst.new ≡ src.now }
 {
-    let mut i = 0;
-    while i < src.len() {
-        dst[i] = src[i];
-        i += 1;
-    }
+    dst.copy_from_slice(src);
 }
 
 // Every byte becomes zero.
 pub fn wipe(dst: &mut [u8])
     ensures { dst.new ≡ blank (length dst.old) }
 {
-    let mut i = 0;
-    while i < dst.len() {
-        dst[i] = 0;
-        i += 1;
-    }
+    dst.fill(0);
 }
 
 // The bytes of src, and zeros after them.
+#[tactic(auto, unfolding(crate::specs::Pour::padded))]
 pub fn fill(dst: &mut [u8], src: &[u8])
     requires { length src.now ≤ length dst.old }
     ensures { dst.new ≡ padded (length dst.old) src.now }
@@ -38,6 +31,7 @@ pub fn fill(dst: &mut [u8], src: &[u8])
 }
 
 // The bytes of src from a place on; the others stay.
+#[tactic(auto, unfolding(crate::specs::Pour::poured))]
 pub fn pour(dst: &mut [u8], at: usize, src: &[u8])
     requires { at + length src.now ≤ length dst.old }
     ensures { dst.new ≡ poured dst.old at src.now }
@@ -47,28 +41,17 @@ pub fn pour(dst: &mut [u8], at: usize, src: &[u8])
 }
 
 // Each byte becomes the one that lies so many places further on; the last ones stay.
+#[tactic(auto, unfolding(crate::specs::Pour::slid))]
 pub fn slide(dst: &mut [u8], by: usize)
     requires { by ≤ length dst.old }
     ensures { dst.new ≡ slid by dst.old }
 {
-    let n = dst.len() - by;
-    let mut i = 0;
-    while i < n {
-        dst[i] = dst[i + by];
-        i += 1;
-    }
+    dst.copy_within(by.., 0);
 }
 
 // Every byte is zero.
 pub fn all_zero(s: &[u8]) -> bool
     ensures { result ≡ zeros s.now }
 {
-    let mut i = 0;
-    while i < s.len() {
-        if s[i] != 0 {
-            return false;
-        }
-        i += 1;
-    }
-    true
+    s.iter().all(|b| *b == 0)
 }

@@ -5,7 +5,7 @@ ghost use Rattle.std.specs.Prelude.{◌≡◌, ◌≤◌, length};
 ghost use Rattle.rules.specs.Tlv.{head_at};
 ghost use Rattle.reader.specs.Next.{next_at};
 
-use rules::Head;
+use rules::Tlv;
 
 #[derive(Clone, Copy)]
 pub struct Reader<'a> {
@@ -13,58 +13,36 @@ pub struct Reader<'a> {
     pub place: usize,
 }
 
-// The TLV at a place of a container.
-fn head_in(container: &[u8], place: usize) -> Head
-    ensures { result ≡ head_at container.now place (length container.now) }
-{
-    tlv::head_at(container, place, container.len())
-}
+impl<'a> Reader<'a> {
+    // A reader at a place of a container.
+    pub fn new(container: &'a [u8], place: usize) -> Reader<'a>
+        ensures { (result.container ≡ container.entry) × (result.place ≡ place) }
+    {
+        Reader { container, place }
+    }
 
-// The place after the TLV at a place of a container: its end where no TLV stands there.
-fn next_in(container: &[u8], place: usize) -> usize
-    ensures { result ≡ next_at container.now place }
-{
-    let Head::Tlv(_, _, stop) = head_in(container, place) else {
-        return container.len();
-    };
-    stop
-}
+    // The TLV at its place.
+    pub fn head(self) -> Option<Tlv>
+        ensures { result ≡ head_at self.entry.container.now self.entry.place (length self.entry.container.now) }
+    {
+        tlv::head_at(self.container, self.place, self.container.len())
+    }
 
-// A reader at a place of a container.
-pub fn new<'a>(container: &'a [u8], place: usize) -> Reader<'a>
-    ensures { (result.container ≡ container.entry) × (result.place ≡ place) }
-{
-    Reader { container, place }
-}
-
-// The TLV at its place.
-pub fn head<'a>(reader: Reader<'a>) -> Head
-    ensures { result ≡ head_at reader.entry.container.now reader.entry.place (length reader.entry.container.now) }
-{
-    head_in(reader.container, reader.place)
-}
-
-// The reader at the place after that TLV.
-pub fn next<'a>(reader: Reader<'a>) -> Reader<'a>
-    ensures { (result.container ≡ reader.entry.container) × (result.place ≡ next_at reader.entry.container.now reader.entry.place) }
-{
-    Reader {
-        container: reader.container,
-        place: next_in(reader.container, reader.place),
+    // The reader at the place after that TLV.
+    #[tactic(auto, unfolding(crate::specs::Next::next_at, crate::specs::Next::stop_or))]
+    pub fn next(self) -> Reader<'a>
+        ensures { (result.container ≡ self.entry.container) × (result.place ≡ next_at self.entry.container.now self.entry.place) }
+    {
+        let place = self.head().map_or(self.container.len(), |tlv| tlv.stop);
+        Reader { place, ..self }
     }
 }
 
-// The TLV at a place of a container, by a reader, on plain parameters.
-fn head_from(container: &[u8], place: usize) -> Head
-    ensures { result ≡ head_at container.now place (length container.now) }
-{
-    head(new(container, place))
-}
-
 // The TLV at a place, before an end: the container is what stands before the end.
-pub fn head_at(s: &[u8], at: usize, end: usize) -> Head
+#[tactic(auto, using(crate::proofs::Front::front_laws))]
+pub fn head_at(s: &[u8], at: usize, end: usize) -> Option<Tlv>
     requires { end ≤ length s.now }
     ensures { result ≡ head_at s.now at end }
 {
-    head_from(&s[..end], at)
+    Reader::new(&s[..end], at).head()
 }

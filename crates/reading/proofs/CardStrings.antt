@@ -8,7 +8,6 @@ use native.Mathlib.Omega.{arith}
 use lib.ListN.{length, length-take}
 use lib.Dec.{ltb, leb, eqb}
 use borrow.Author.Tests.{ltb-false, eqb-true}
-use Rattle.rules.specs.declared.Judged.TheVariants.{Accepted}
 use Rattle.rules.specs.Bytes.{part, among}
 use Rattle.rules.specs.Tlv.{head_at}
 use Rattle.rules.specs.Tlvs.{Tlvs, done, past, tlv}
@@ -26,6 +25,7 @@ use Rattle.rules.proofs.StaysCardPage.{page_sound}
 use Rattle.rules.proofs.StaysCardStep.{card_running}
 use Rattle.leaf.proofs.Cases.{both}
 use Rattle.reading.specs.Strings.{ShortStrings}
+use Rattle.std.specs.Prelude.{Ok}
 
 module _ (s : List ℕ) where
   part_length : (a b : ℕ) → length (part s a b) ≤ b - a
@@ -58,7 +58,7 @@ module _ (s : List ℕ) where
       (λ q. rw q (small_element n 0 (pieces false s start stop) (small_pool left within from last at start stop (rw (eqb-true tag 0x07 q) at i.0))))
       (λ q. rw q (pool_strings left within from (cell_of within tag) n rest i.1))
 
-  accepted_strings : judge s ≡ Accepted → (n : ℕ) → length (value_bytes (string_of s (element s n))) ≤ 255
+  accepted_strings : judge s ≡ Ok tt → (n : ℕ) → length (value_bytes (string_of s (element s n))) ≤ 255
   unfolding element pool page_part
   accepted_strings e n = let w = page_sound s e in pool_strings 6 page_kind w.from 0 n (page_row s) w.sound
 

@@ -3,13 +3,11 @@
 use Prim.Native.Nat.{ℕ, suc, ◌≤◌, ◌<◌}
 use mathlib.Core.Bool.{Bool, true, false, cond, false≢true, true≢false}
 use mathlib.Core.List.{List, [], ◌∷◌}
-use mathlib.Core.Path.{◌≡◌, refl}
+use mathlib.Core.Path.{◌≡◌, refl, subst, sym}
 use native.Mathlib.Numerals.{add-one}
 use native.Mathlib.Omega.{arith}
 use lib.ListN.{length, get_or, get_or-eq_default}
 use borrow.Author.Tests.{lt-leb, le-leb}
-use Rattle.rules.specs.declared.Part.{Part}
-use Rattle.rules.specs.declared.Part.TheVariants.{Held, Missing}
 use Rattle.rules.specs.declared.Refusal.TheVariants.{Variable}
 use Rattle.rules.specs.declared.Shown.{Shown}
 use Rattle.rules.specs.Bytes.{part}
@@ -21,10 +19,12 @@ use Rattle.rules.specs.Calls.{shown_by, padded, hidden, display}
 use Rattle.rules.proofs.BlankStore.{from_next}
 use Rattle.pour.specs.Pour as pour
 use Rattle.slots.specs.Slots.{is_held}
-use Rattle.records.specs.Records.{records}
+use Rattle.records.specs.Records.{IsPlace, records}
 use Rattle.records.proofs.RecordLaws.{sixty_four}
 use Rattle.word.specs.Word.{is_marked, guard_of}
 use Rattle.leaf.proofs.Cases.{both, was}
+use Rattle.std.specs.Prelude.{Option, None, Some}
+use Rattle.rules.specs.declared.Span.{Span}
 
 module _ (b : List ℕ) (t : ℕ) where
   pub value_long : 255 < length b → length b ≤ 255 → (r : Shown) → r ≡ display (held t b)
@@ -82,21 +82,31 @@ module _ (id : List ℕ) (n : ℕ) (m : List ℕ) (r : Shown) where
     unfolding within display
     record_long h e = simp (le-leb _ _ l, lt-leb _ _ h) e
 
-    module _ (s : length id ≤ 16) (k : ℕ) (is : k ≡ record_from 0 id n (records m)) where
-      asks : asked ≡ value_of (get_or (records m) k none)
+    module _ (s : length id ≤ 16) (o : Option ℕ) (found_at : IsPlace o (record_from 0 id n (records m))) where
+      asks : (k : ℕ) → k ≡ record_from 0 id n (records m) → asked ≡ value_of (get_or (records m) k none)
       unfolding within look_for
-      asks = simp (le-leb _ _ l, le-leb _ _ s, is)
+      asks k is = simp (le-leb _ _ l, le-leb _ _ s, is)
 
-      pub record_absent : 64 ≤ k → r ≡ hidden Variable → r ≡ display asked
+      pub record_absent : o ≡ None → r ≡ hidden Variable → r ≡ display asked
       unfolding value_of display
-      record_absent h e = let z : get_or (records m) k none ≡ none = get_or-eq_default (records m) none (omega (arith, sixty_four m)) in rw (asks, z) e
+      record_absent x e =
+          let h : record_from 0 id n (records m) ≡ 64 = subst (λ q. IsPlace q (record_from 0 id n (records m))) x found_at in
+          let z : get_or (records m) 64 none ≡ none = get_or-eq_default (records m) none (omega (arith, sixty_four m)) in rw (asks 64 (sym h), z) e
 
-      pub record_shown : k < 64 → (t : ℕ) → t ≡ value_type (value_of (get_or (records m) k none)) → (v : List ℕ) → v ≡ value_bytes (value_of (get_or (records m) k none)) → length v < 256 → (length v ≤ 255 → r ≡ display (held t v)) → r ≡ display asked
-      record_shown h t f v g w e =
-          let held : is_held (value_of (get_or (records m) k none)) ≡ true = rw is (found id n (records m) (omega (arith, sixty_four m))) in
-          rw asks (shows_held r t v w e (value_of (get_or (records m) k none)) f g held)
+      module _ (k : ℕ) (x : o ≡ Some k) where
+        place : (k ≡ record_from 0 id n (records m)) × (k < 64)
+        place = subst (λ q. IsPlace q (record_from 0 id n (records m))) x found_at
 
-pub ruleset record_laws = (record_without, record_long, record_absent, record_shown)
+        pub record_below : k < 64
+        record_below = place.1
+
+        pub record_shown : (t : ℕ) → t ≡ value_type (value_of (get_or (records m) k none)) → (v : List ℕ) → v ≡ value_bytes (value_of (get_or (records m) k none)) → length v < 256 → (length v ≤ 255 → r ≡ display (held t v)) → r ≡ display asked
+        record_shown t f v g w e =
+            let h = place.1 in
+            let held : is_held (value_of (get_or (records m) k none)) ≡ true = let q = place.0 in rw place.0 (found id n (records m) (omega (arith, sixty_four m))) in
+            rw (asks k place.0) (shows_held r t v w e (value_of (get_or (records m) k none)) f g held)
+
+pub ruleset record_laws = (record_without, record_long, record_absent, record_below, record_shown)
 
 module _ (g : List ℕ) (x : Slot) (b : Bool) (is : b ≡ is_marked g) (r : Shown) where
   pub guard_hides : b ≡ true → r ≡ hidden Variable → r ≡ display (shown_by (guard_of g) x)
@@ -109,15 +119,15 @@ module _ (g : List ℕ) (x : Slot) (b : Bool) (is : b ≡ is_marked g) (r : Show
 
 pub ruleset guard_laws = (guard_hides, guard_shows)
 
-module _ (s : List ℕ) (k : ℕ) (p : Part) (is : p ≡ element s k) (r : Shown) where
-  pub string_hidden : p ≡ Missing → r ≡ hidden Variable → r ≡ display (string_of s (element s k))
+module _ (s : List ℕ) (k : ℕ) (p : Option Span) (is : p ≡ element s k) (r : Shown) where
+  pub string_hidden : p ≡ None → r ≡ hidden Variable → r ≡ display (string_of s (element s k))
   unfolding string_of display
   string_hidden x h = simp (was is x) h
 
-  pub string_shown : (a b : ℕ) → p ≡ Held a b → (t : ℕ) → t ≡ page_type s → (v : List ℕ) → v ≡ part s a b → (length v ≤ 255 → r ≡ display (held t v)) → length (value_bytes (string_of s (element s k))) ≤ 255 → r ≡ display (string_of s (element s k))
+  pub string_shown : (u : Span) → p ≡ Some u → (t : ℕ) → t ≡ page_type s → (v : List ℕ) → v ≡ part s u.from u.end → (length v ≤ 255 → r ≡ display (held t v)) → length (value_bytes (string_of s (element s k))) ≤ 255 → r ≡ display (string_of s (element s k))
   unfolding string_of value_bytes
-  string_shown a b x t e v f h l =
-      let w : length (part s a b) ≤ 255 = rw (was is x) at l in
+  string_shown u x t e v f h l =
+      let w : length (part s u.from u.end) ≤ 255 = rw (was is x) at l in
       rw (was is x) (rw (e, f) at (h (rw f w)))
 
 pub ruleset string_laws = (string_hidden, string_shown)

@@ -15,10 +15,11 @@ ghost use Rattle.state.specs.State.{Is};
 ghost use Rattle.reading.specs.Strings.{ShortStrings};
 
 use leaf::wide;
-use rules::{Part, Shown};
+use rules::Shown;
 use state::State;
 
 // Reference to undefined, and zeros.
+#[tactic(auto, unfolding(rules::specs::Calls::hidden, rules::specs::Numbers::number))]
 fn hide() -> Shown
     ensures { result ≡ hidden Variable }
 {
@@ -47,55 +48,59 @@ fn show(valuetype: u8, bytes: &[u8]) -> Shown
     }
 }
 
+#[tactic(auto, using(crate::proofs::ShowLaws::slot_laws))]
 fn show_slot(area: &[u8; 16640], k: usize) -> Shown
     requires { k < 64 }
     ensures { result ≡ display (get_or (slots area.now) k free) }
 {
     if slots::is_held(area, k) {
-        return show(slots::slot_type(area, k), slots::slot_value(area, k));
+        show(slots::slot_type(area, k), slots::slot_value(area, k))
+    } else {
+        hide()
     }
-    hide()
 }
 
 // A permanent variable, asked for by a Service ID of 1 to 16 bytes (6.1.2).
+#[tactic(auto, using(crate::proofs::ShowLaws::record_laws))]
 fn show_record<'a>(area: &'a [u8; 17920], number: u8, service: &'a [u8]) -> Shown
     ensures { result ≡ display (cond (within 1 16 (length service.now)) (look_for service.now number (records area.now)) free) }
 {
-    if service.len() < 1 {
+    if service.len() < 1 || 16 < service.len() {
         return hide();
     }
-    if 16 < service.len() {
-        return hide();
+    match records::find_record(area, service, number) {
+        Some(k) => show(
+            records::record_type(area, k),
+            records::record_value(area, k),
+        ),
+        None => hide(),
     }
-    let k = records::find_record(area, service, number);
-    if 64 <= k {
-        return hide();
-    }
-    show(
-        records::record_type(area, k),
-        records::record_value(area, k),
-    )
 }
 
 // A temporary variable, hidden while a password protects it (6.1.3).
+#[tactic(auto, using(crate::proofs::ShowLaws::guard_laws))]
 fn show_temporary<'a>(area: &'a [u8; 16640], guard: &'a [u8; 18], k: usize) -> Shown
     requires { k < 64 }
     ensures { result ≡ display (shown_by (guard_of guard.now) (get_or (slots area.now) k free)) }
 {
     if word::is_marked(guard) {
-        return hide();
+        hide()
+    } else {
+        show_slot(area, k)
     }
-    show_slot(area, k)
 }
 
 // An element of the page's string pool, in the page's type (6.1.4).
 fn show_string(page: &[u8], k: usize) -> Shown
     ensures { length (value_bytes (string_of page.now (element page.now k))) ≤ 255 → result ≡ display (string_of page.now (element page.now k)) }
 {
-    let Part::Held(from, to) = page::element(page, k) else {
-        return hide();
-    };
-    show(page::page_type(page), slice::part_of(page, from, to))
+    match page::element(page, k) {
+        Some(span) => show(
+            page::page_type(page),
+            slice::part_of(page, span.from, span.end),
+        ),
+        None => hide(),
+    }
 }
 
 // A variable by its number, a permanent one under a Service ID; an empty ID stands for none.

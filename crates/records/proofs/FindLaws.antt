@@ -1,19 +1,20 @@
 -- A record found by its number and its Service ID, and a free place.
 -- Assumes nothing.
-use Prim.Native.Nat.{ℕ, ◌+◌, ◌-◌, ◌*◌, ◌≤◌, ◌<◌}
+use Prim.Native.Nat.{ℕ, ◌+◌, ◌-◌, ◌*◌, ◌<◌}
 use mathlib.Core.Bool.{Bool, true, false, cond}
 use mathlib.Core.List.{List, ◌∷◌}
-use mathlib.Core.Path.{◌≡◌, sym, ap, ◌∙◌}
+use mathlib.Core.Path.{◌≡◌, refl, sym, ap, ◌∙◌}
 use native.Mathlib.Numerals.{add-one}
 use native.Mathlib.Omega.{arith}
 use lib.ListN.{length, get_or, take, drop}
 use lib.Seq.{drop-cons}
-use borrow.Author.Tests.{eq-eqb, ne_eqb, lt-ltb, le-ltb}
+use borrow.Author.Tests.{eq-eqb, ne_eqb, lt-ltb}
+use Rattle.std.specs.Prelude.{Option, None, Some}
 use Rattle.pour.proofs.StrideLaws.{each_more, each_done}
 use Rattle.rules.specs.Bytes.{same, part}
 use Rattle.rules.specs.Card.{none}
 use Rattle.rules.specs.Store.{is_record, record_from, is_free, free_from, place_for}
-use Rattle.records.specs.Records.{record_in, records}
+use Rattle.records.specs.Records.{IsPlace, record_in, records}
 use Rattle.records.proofs.RecordLaws.{sixty_four, none_free, stored_free}
 
 module _ (p id : List ℕ) (number : ℕ) where
@@ -32,9 +33,9 @@ module _ (p id : List ℕ) (number : ℕ) where
 
 -- `w` is the place that the search from its start finds
 module _ (a id : List ℕ) (number k w : ℕ) (inv : record_from k id number (drop k (records a)) ≡ w) where
-  pub find_done : 64 ≤ k → k ≡ w
+  pub find_done : k ≡ 64 → w ≡ 64
   unfolding record_from records
-  find_done h = sym (ap (record_from k id number) (each_done record_in 64 280 a k h)) ∙ inv
+  find_done e = sym inv ∙ ap (record_from k id number) (each_done record_in 64 280 a k (omega arith)) ∙ e
 
   module _ (h : k < 64) (r : Bool) (e : r ≡ is_record id number (record_in (take (k * 280 + 280 - k * 280) (drop (k * 280) a)))) where
     step : record_from k id number (drop k (records a)) ≡ cond r k (record_from (k + 1) id number (drop (k + 1) (records a)))
@@ -48,9 +49,9 @@ module _ (a id : List ℕ) (number k w : ℕ) (inv : record_from k id number (dr
     find_more f = sym (rw f at step) ∙ inv
 
 module _ (a : List ℕ) (k w : ℕ) (inv : free_from k (drop k (records a)) ≡ w) where
-  pub free_done : 64 ≤ k → k ≡ w
+  pub free_done : k ≡ 64 → w ≡ 64
   unfolding free_from records
-  free_done h = sym (ap (free_from k) (each_done record_in 64 280 a k h)) ∙ inv
+  free_done e = sym inv ∙ ap (free_from k) (each_done record_in 64 280 a k (omega arith)) ∙ e
 
   module _ (h : k < 64) where
     go : free_from k (drop k (records a)) ≡ cond (is_free (get_or (records a) k none)) k (free_from (k + 1) (drop (k + 1) (records a)))
@@ -66,13 +67,13 @@ module _ (a : List ℕ) (k w : ℕ) (inv : free_from k (drop k (records a)) ≡ 
     pub free_more : (get_or a (k * 280) 0 ≡ 0 → ⊥) → free_from (k + 1) (drop (k + 1) (records a)) ≡ w
     free_more e = sym (rw (stored_free a k h e) at go) ∙ inv
 
-module _ (a id : List ℕ) (number k : ℕ) (e : k ≡ record_from 0 id number (records a)) where
-  pub place_own : k < 64 → k ≡ place_for id number (records a)
-  unfolding place_for
-  place_own h = simp (sixty_four a, ← e, lt-ltb _ _ h)
+-- its own place, or else a free one
+pub place_own : (a id : List ℕ) (number : ℕ) (k : ℕ) → IsPlace (Some k) (record_from 0 id number (records a)) → IsPlace (Some k) (place_for id number (records a))
+unfolding place_for
+place_own a id number k h = simp (sixty_four a, ← h.0, lt-ltb _ _ h.1) (refl, h.1)
 
-  pub place_free : 64 ≤ k → (f : ℕ) → f ≡ free_from 0 (records a) → f ≡ place_for id number (records a)
-  unfolding place_for
-  place_free h f g = simp (sixty_four a, ← e, le-ltb _ _ h) g
+pub place_free : (a id : List ℕ) (number : ℕ) (o : Option ℕ) → IsPlace None (record_from 0 id number (records a)) → IsPlace o (free_from 0 (records a)) → IsPlace o (place_for id number (records a))
+unfolding place_for
+place_free a id number o h f = simp (sixty_four a, h) f
 
 pub ruleset find_laws = (is_none, is_other, is_same, find_done, find_this, find_more, free_done, free_this, free_more, place_own, place_free)

@@ -1,16 +1,19 @@
 -- The test of number 35 on a record.
 -- Assumes nothing.
-use Prim.Native.Nat.{ℕ, ◌+◌, ◌-◌, ◌≤◌, ◌<◌}
+use Prim.Native.Nat.{ℕ, ◌/◌, ◌+◌, ◌-◌, ◌≤◌, ◌<◌}
 use mathlib.Core.Bool.{Bool, true, false, cond}
-use mathlib.Core.List.{List}
+use mathlib.Core.List.{List, []}
 use mathlib.Core.Path.{◌≡◌, sym, ◌∙◌}
 use native.Mathlib.Omega.{arith}
 use lib.ListN.{length, get_or, take, drop, length-take, length-drop}
 use lib.Dec.{ltb, leb}
 use borrow.Author.Tests.{eq-eqb, ne_eqb, le-leb, lt-leb, leb-true}
 use Rattle.leaf.proofs.Cases.{both}
+use Rattle.std.specs.Prelude.{IsTrue, ◌↔◌, EachIndex}
+use Rattle.std.specs.Simd.{first_chunks}
+use Rattle.pour.specs.Stride.{each, all}
 use Rattle.pour.specs.Pour.{zeros}
-use Rattle.pour.proofs.StrideLaws.{false_both, same_or_false, all_first, all_rest, all_done, all_more, all_less}
+use Rattle.pour.proofs.StrideLaws.{false_both, same_or_false, all_first, all_rest, all_by}
 use Rattle.rules.specs.Bytes.{part}
 use Rattle.rules.specs.IsCard.{within, value_fine, record_fine}
 use Rattle.records.specs.Records.{record_in, tidy_fields, tidy_record, sound_record}
@@ -105,4 +108,7 @@ module _ (p : List ℕ) where
       pub fine_not : t ≡ false → false ≡ sound_record p
       fine_not u = sym (sound_is ∙ rw u (false_both (tidy_fields p)))
 
-pub ruleset fine_laws = (tidy_long, tidy_spare, tidy_id, tidy_value, fine_free, fine_live, fine_fields, fine_not, all_done, all_more, all_less)
+pub fine_by : (a : List ℕ) → length a ≡ 17920 → (ps : List (List ℕ)) → ps ≡ first_chunks 280 (length a / 280) a → (r : Bool) → (IsTrue r ↔ EachIndex ps (λ k. IsTrue (sound_record (get_or ps k [])))) → r ≡ all (each sound_record 64 280 a)
+fine_by a l ps e r h = all_by sound_record 64 280 a ps (rw l at e) r h
+
+pub ruleset fine_laws = (tidy_long, tidy_spare, tidy_id, tidy_value, fine_free, fine_live, fine_fields, fine_not)

@@ -1,12 +1,17 @@
 -- The permanent area of 64 records in one array: record k is the 280 bytes at 280 * k: live, number, ID length, type, length, three zeros,
 -- then 16 bytes, the Service ID and zeros, then 256 bytes, the value and zeros.
-use Rattle.std.specs.Prelude.{ℕ, ◌+◌, ◌*◌, Bool, true, false, cond, List, [], ◌∷◌, ◌++◌, length, get_or, leb, eqb}
+use Rattle.std.specs.Prelude.{◌≡◌, ◌<◌, Option, None, Some, ℕ, ◌+◌, ◌*◌, Bool, true, false, cond, List, [], ◌∷◌, ◌++◌, length, get_or, leb, eqb}
 use Rattle.pour.specs.Pour.{blank, poured, padded, zeros}
 use Rattle.pour.specs.Stride.{each, all}
 use Rattle.rules.specs.Bytes.{part}
 use Rattle.rules.specs.Card.{Record, none, stored}
 use Rattle.rules.specs.Store.{longest}
 use Rattle.rules.specs.IsCard.{record_fine, records_fine, repeats}
+
+-- a place that was looked for, counted as the rules do; 64, past the last, where there is none
+abbrev pub IsPlace : Option ℕ → ℕ → Type 0
+IsPlace None place = place ≡ 64
+IsPlace (Some k) place = (k ≡ place) × (k < 64)
 
 -- what the bytes of a record mean
 unfoldable pub record_in : List ℕ → Record

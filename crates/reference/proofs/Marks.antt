@@ -1,55 +1,53 @@
 -- The ways through `mark`, in the shape of what its proof needs, and where the mark stands.
 -- Assumes nothing.
-use Prim.Native.Nat.{ℕ, zero, suc, ◌+◌, ◌-◌, ◌≤◌, ◌<◌}
+use Prim.Native.Nat.{ℕ, zero, suc, ◌+◌, ◌≤◌, ◌<◌}
 use mathlib.Core.List.{List}
-use mathlib.Core.Path.{◌≡◌, sym, subst, ◌∙◌}
+use mathlib.Core.Path.{◌≡◌, refl, ap, sym, subst, ◌∙◌}
 use native.Mathlib.Omega.{arith}
-use native.Mathlib.Numerals.{sub-one}
 use lib.ListN.{length, get_or, take}
 use lib.Seq.{length-take-le}
-use lib.Dec.{eqb}
+use lib.Dec.{ltb, eqb}
 use borrow.Author.Tests.{eq-eqb, ne_eqb}
-use Rattle.rules.specs.declared.Spot.{Spot}
-use Rattle.rules.specs.declared.Spot.TheVariants.{After, Cut}
 use Rattle.rules.specs.Reference.{mark_in, mark}
-use Rattle.leaf.proofs.Cases.{both}
+use Rattle.leaf.proofs.Cases.{both, tests}
+use Rattle.std.specs.Prelude.{Option, Some, None, MatchOption, EachIndex, ◌≢◌}
 
--- `w` is what the whole reference comes to, and the premise that the first n bytes come to the same
-module _ (r : List ℕ) (w : Spot) where
-  pub mark_none : (n : ℕ) → mark_in n r ≡ w → n ≤ 0 → Cut ≡ w
+module _ (r : List ℕ) where
+  mark_in_none : (n : ℕ) → ((k : ℕ) → k < n → get_or r k 0 ≡ 0x23 → ⊥) → mark_in n r ≡ None
   unfolding mark_in
-  mark_none zero inv h = inv
-  mark_none (suc n) inv h = absurd (omega arith)
+  mark_in_none zero h = refl
+  mark_in_none (suc n) h = simp (ne_eqb _ _ (h n (omega arith))) (mark_in_none n (λ k l. h k (omega arith)))
 
-  pub mark_this : (n : ℕ) → mark_in n r ≡ w → 0 < n → get_or r (n - 1) 0 ≡ 0x23 → After (n - 1) ≡ w
+  mark_in_last : (n i : ℕ) → i < n → get_or r i 0 ≡ 0x23 → ((k : ℕ) → i < k → k < n → get_or r k 0 ≡ 0x23 → ⊥) → mark_in n r ≡ Some i
   unfolding mark_in
-  mark_this zero inv h x = absurd (omega arith)
-  mark_this (suc n) inv h x = simp (sub-one (suc n)) (sym (simp (eq-eqb _ _ (simp (sub-one (suc n)) at x))) ∙ inv)
+  mark_in_last zero i l e h = absurd (omega arith)
+  mark_in_last (suc n) i l e h =
+      both (ltb i n) (λ t. simp (ne_eqb _ _ (h n (omega tests) (omega arith))) (mark_in_last n i (omega tests) e (λ k a b. h k a (omega arith))))
+      (λ t. let x : i ≡ n = omega tests in simp (eq-eqb _ _ (rw x at e)) (ap Some (sym x)))
 
-  pub mark_other : (n : ℕ) → mark_in n r ≡ w → 0 < n → (get_or r (n - 1) 0 ≡ 0x23 → ⊥) → mark_in (n - 1) r ≡ w
-  unfolding mark_in
-  mark_other zero inv h x = absurd (omega arith)
-  mark_other (suc n) inv h x = simp (sub-one (suc n)) (sym (simp (ne_eqb _ _ (simp (sub-one (suc n)) at x))) ∙ inv)
+  -- `m` is what a search from the end found
+  pub mark_by : (m : Option ℕ) → MatchOption m (EachIndex r (λ k. get_or r k 0 ≢ 0x23)) (λ i. (i < length r) × (get_or r i 0 ≡ 0x23) × ((k : ℕ) → i + 1 ≤ k → k < length r → get_or r k 0 ≢ 0x23)) → m ≡ mark r
+  unfolding mark
+  mark_by None h = sym (mark_in_none (length r) (λ k l. h k l))
+  mark_by (Some i) h = sym (mark_in_last (length r) i h.0 h.1 (λ k a b. h.2 k (omega arith) b))
 
-pub ruleset mark_laws = (mark_none, mark_this, mark_other)
-
-abbrev Below : ℕ → Spot → Type 0
-Below n (After m) = m < n
-Below n Cut = Unit {0}
+abbrev Below : ℕ → Option ℕ → Type 0
+Below n (Some m) = m < n
+Below n None = Unit {0}
 
 mark_below : (n m : ℕ) (r : List ℕ) → n ≤ m → Below m (mark_in n r)
 unfolding mark_in
 mark_below zero m r h = tt
 mark_below (suc n) m r h = both (eqb (get_or r n 0) 0x23) (λ t. simp t (omega arith)) (λ t. simp t (mark_below n m r (omega arith)))
 
-pub mark_after : (r : List ℕ) {n : ℕ} → mark r ≡ After n → n < length r
+pub mark_after : (r : List ℕ) {n : ℕ} → mark r ≡ Some n → n < length r
 unfolding mark
 mark_after r e = subst (Below (length r)) e (mark_below (length r) (length r) r (omega arith))
 
-pub mark_counts : (r : List ℕ) (m : Spot) → m ≡ mark r → (n : ℕ) → m ≡ After n → n ≡ length (take n r)
+pub mark_counts : (r : List ℕ) (m : Option ℕ) → m ≡ mark r → (n : ℕ) → m ≡ Some n → n ≡ length (take n r)
 mark_counts r m is n x = let b = mark_after r (sym is ∙ x) in sym (length-take-le n r (omega arith))
 
-module _ (r : List ℕ) (m : Spot) (is : m ≡ mark r) (n : ℕ) (x : m ≡ After n) where
+module _ (r : List ℕ) (m : Option ℕ) (is : m ≡ mark r) (n : ℕ) (x : m ≡ Some n) where
   pub mark_left : n + 1 ≤ length r
   mark_left = let b = mark_after r (sym is ∙ x) in omega arith
 

@@ -6,12 +6,8 @@ use mathlib.Core.List.{List, []}
 use mathlib.Core.Path.{◌≡◌, refl, sym, ◌∙◌}
 use native.Mathlib.Omega.{arith}
 use lib.ListN.{length, get_or}
-use lib.Dec.{leb}
+use lib.Dec.{leb, eqb}
 use borrow.Author.Tests.{lt-ltb, le-ltb, eq-eqb, ne_eqb, leb-true}
-use Rattle.rules.specs.declared.Head.{Head}
-use Rattle.rules.specs.declared.Head.TheVariants.{Tlv, Past}
-use Rattle.rules.specs.declared.Reply.{Reply}
-use Rattle.rules.specs.declared.Reply.TheVariants.{Result, Malformed}
 use Rattle.rules.specs.Bytes.{part}
 use Rattle.rules.specs.Tlv.{head_at}
 use Rattle.rules.specs.Tlvs.{Tlvs, row, tlvs, plain}
@@ -19,29 +15,32 @@ use Rattle.rules.specs.Card.{held}
 use Rattle.rules.specs.Store.{value_bytes, value_type}
 use Rattle.rules.specs.Command.{fills, first_of, result_in, reply, text_type, optimised}
 use Rattle.leaf.proofs.Cases.{both, tests, was}
-use Rattle.tlv.proofs.Rows.{tlvs_more, row_done, row_tlv, row_past}
+use Rattle.tlv.proofs.Rows.{tlvs_more, row_done, row_past, row_next, row_ends}
+use Rattle.std.specs.Prelude.{Option, Some, None}
+use Rattle.rules.specs.declared.Tlv.{Tlv}
+use Rattle.rules.specs.Built.{some_reply}
+use Rattle.rules.specs.declared.Reply.{Reply}
 
 -- `w`, here and below, is what the whole row comes to, and `inv` that the rest comes to the same
 module _ (s : List ℕ) (at end : ℕ) (w : Bool) (inv : fills (tlvs 0 s at end) ≡ w) where
-  pub fills_done : end ≤ at → true ≡ w
-  unfolding fills
-  fills_done h = sym (simp (row_done s at end h)) ∙ inv
-
-  module _ (h : at < end) (r : Head) (is : r ≡ head_at s at end) where
-    pub fills_past : r ≡ Past → false ≡ w
+  module _ (r : Option Tlv) (is : r ≡ head_at s at end) where
+    pub fills_ends : r ≡ None → at ≤ end → eqb at end ≡ w
     unfolding fills
-    fills_past x = sym (simp (row_past s at end h (was is x))) ∙ inv
+    fills_ends x h =
+        both (leb end at)
+        (λ t. eq-eqb at end (omega tests) ∙ sym (simp (row_done s at end (omega tests))) ∙ inv)
+        (λ t. ne_eqb at end (λ e. omega tests) ∙ sym (simp (row_past s at end (omega tests) (was is x))) ∙ inv)
 
-    pub fills_more : (tag start stop : ℕ) → r ≡ Tlv tag start stop → fills (tlvs 0 s stop end) ≡ w
+    pub fills_more : (v : Tlv) → r ≡ Some v → fills (tlvs 0 s v.stop end) ≡ w
     unfolding fills
-    fills_more tag start stop x = sym (simp (row_tlv s at end h (was is x))) ∙ inv
+    fills_more v x = sym (simp (row_next s at end (was is x))) ∙ inv
 
-pub ruleset fills_laws = (fills_done, fills_past, fills_more)
+pub ruleset fills_laws = (fills_ends, fills_more)
 
-first_row : (rest : ℕ → Tlvs) (at : ℕ) (h : Head) → first_of (row rest at h) ≡ h
+first_row : (rest : ℕ → Tlvs) (at : ℕ) (h : Option Tlv) → first_of (row rest at h) ≡ h
 unfolding first_of row
-first_row rest at (Tlv tag start stop) = refl
-first_row rest at Past = refl
+first_row rest at (Some h) = refl
+first_row rest at None = refl
 
 -- the first TLV of a row is the one at its place
 first_head : (s : List ℕ) (at end : ℕ) → first_of (tlvs 0 s at end) ≡ head_at s at end
@@ -50,85 +49,81 @@ first_head s at end =
     both (leb end at) (λ t. simp (t, row_done s at end (leb-true end at t)))
     (λ t. let here : at + 0 ≡ at = omega arith in rw (tlvs_more 0 s at end (omega tests)) (first_row _ (at + 0) (head_at s (at + 0) end) ∙ rw here))
 
-module _ (s : List ℕ) (at end : ℕ) (w : Reply) (inv : result_in s (tlvs 0 s at end) ≡ w) where
-  pub result_done : end ≤ at → Malformed ≡ w
-  unfolding result_in
-  result_done h = sym (simp (row_done s at end h)) ∙ inv
-
-  module _ (h : at < end) (r : Head) (is : r ≡ head_at s at end) where
-    pub result_past : r ≡ Past → Malformed ≡ w
+module _ (s : List ℕ) (at end : ℕ) (w : Option Reply) (inv : result_in s (tlvs 0 s at end) ≡ w) where
+  module _ (r : Option Tlv) (is : r ≡ head_at s at end) where
+    pub result_ends : r ≡ None → None ≡ w
     unfolding result_in
-    result_past x = sym (simp (row_past s at end h (was is x))) ∙ inv
+    result_ends x = sym (row_ends s at end (result_in s) (was is x) refl refl) ∙ inv
 
-    module _ (tag start stop : ℕ) (x : r ≡ Tlv tag start stop) where
-      pub result_this : tag % 128 ≡ 0x03 → start < stop → (b : ℕ) → b ≡ get_or s start 0 → (next : Head) → next ≡ head_at s stop end → Result b next ≡ w
+    module _ (v : Tlv) (x : r ≡ Some v) where
+      pub result_this : v.tag % 128 ≡ 0x03 → v.start < v.stop → (b : ℕ) → b ≡ get_or s v.start 0 → (next : Option Tlv) → next ≡ head_at s v.stop end → some_reply b next ≡ w
       unfolding result_in plain
-      result_this y z b e next n = sym (simp (row_tlv s at end h (was is x), eq-eqb _ _ y, lt-ltb _ _ z, first_head s stop end, n, e)) ∙ inv
+      result_this y z b e next n = sym (simp (row_next s at end (was is x), eq-eqb _ _ y, lt-ltb _ _ z, first_head s v.stop end, n, e)) ∙ inv
 
-      pub result_empty : tag % 128 ≡ 0x03 → stop ≤ start → result_in s (tlvs 0 s stop end) ≡ w
+      pub result_empty : v.tag % 128 ≡ 0x03 → v.stop ≤ v.start → result_in s (tlvs 0 s v.stop end) ≡ w
       unfolding result_in plain
-      result_empty y z = sym (simp (row_tlv s at end h (was is x), eq-eqb _ _ y, le-ltb _ _ z)) ∙ inv
+      result_empty y z = sym (simp (row_next s at end (was is x), eq-eqb _ _ y, le-ltb _ _ z)) ∙ inv
 
-      pub result_other : (tag % 128 ≡ 0x03 → ⊥) → result_in s (tlvs 0 s stop end) ≡ w
+      pub result_other : (v.tag % 128 ≡ 0x03 → ⊥) → result_in s (tlvs 0 s v.stop end) ≡ w
       unfolding result_in plain
-      result_other y = sym (simp (row_tlv s at end h (was is x), ne_eqb _ _ y)) ∙ inv
+      result_other y = sym (simp (row_next s at end (was is x), ne_eqb _ _ y)) ∙ inv
 
-pub ruleset result_laws = (result_done, result_past, result_this, result_empty, result_other)
+pub ruleset result_laws = (result_ends, result_this, result_empty, result_other)
 
 module _ (r : List ℕ) where
-  pub reply_none : length r ≡ 0 → Malformed ≡ reply r
+  pub reply_none : length r ≡ 0 → None ≡ reply r
   unfolding reply
   reply_none h = simp (eq-eqb _ _ h)
 
   module _ (h : length r ≡ 0 → ⊥) where
-    pub reply_long : 255 < length r → Malformed ≡ reply r
+    pub reply_long : 255 < length r → None ≡ reply r
     unfolding reply
     reply_long k = simp (ne_eqb _ _ h, lt-ltb _ _ k)
 
     module _ (k : length r ≤ 255) (f : Bool) (is : f ≡ fills (tlvs 0 r 0 (length r))) where
-      pub reply_cut : f ≡ false → Malformed ≡ reply r
+      pub reply_cut : f ≡ false → None ≡ reply r
       unfolding reply
       reply_cut x = simp (ne_eqb _ _ h, le-ltb _ _ k, was is x)
 
-      pub reply_read : f ≡ true → (p : Reply) → p ≡ result_in r (tlvs 0 r 0 (length r)) → p ≡ reply r
+      pub reply_read : f ≡ true → (p : Option Reply) → p ≡ result_in r (tlvs 0 r 0 (length r)) → p ≡ reply r
       unfolding reply
       reply_read x p y = simp (ne_eqb _ _ h, le-ltb _ _ k, was is x) y
 
 pub ruleset reply_laws = (reply_none, reply_long, reply_cut, reply_read)
 
-module _ (r : List ℕ) (after : Head) where
-  pub type_none : after ≡ Past → 0 ≡ value_type (optimised r after)
+module _ (r : List ℕ) (after : Option Tlv) where
+  pub type_none : after ≡ None → 0 ≡ value_type (optimised r after)
   unfolding optimised value_type
   type_none x = simp x
 
-  pub bytes_none : after ≡ Past → [] ≡ value_bytes (optimised r after)
+  pub bytes_none : after ≡ None → [] ≡ value_bytes (optimised r after)
   unfolding optimised value_bytes
   bytes_none x = simp x
 
-  module _ (tag start stop : ℕ) (x : after ≡ Tlv tag start stop) where
-    module _ (y : tag % 128 ≡ 0x0D) where
-      pub type_text : start < stop → (b t : ℕ) → b ≡ get_or r start 0 → t ≡ text_type b → t ≡ value_type (optimised r after)
+  module _ (v : Tlv) (x : after ≡ Some v) where
+    module _ (y : v.tag % 128 ≡ 0x0D) where
+      pub type_text : v.start < v.stop → (b t : ℕ) → b ≡ get_or r v.start 0 → t ≡ text_type b → t ≡ value_type (optimised r after)
       unfolding optimised value_type plain
       type_text z b t e f = simp (x, eq-eqb _ _ y, lt-ltb _ _ z, ← e) f
 
-      pub type_empty : stop ≤ start → 0 ≡ value_type (optimised r after)
+      pub type_empty : v.stop ≤ v.start → 0 ≡ value_type (optimised r after)
       unfolding optimised value_type plain
       type_empty z = simp (x, eq-eqb _ _ y, le-ltb _ _ z)
 
-      pub bytes_text : start < stop → (b : List ℕ) → b ≡ part r (start + 1) stop → b ≡ value_bytes (optimised r after)
+      pub bytes_text : v.start < v.stop → (b : List ℕ) → b ≡ part r (v.start + 1) v.stop → b ≡ value_bytes (optimised r after)
       unfolding optimised value_bytes plain
       bytes_text z b e = simp (x, eq-eqb _ _ y, lt-ltb _ _ z) e
 
-      pub bytes_empty : stop ≤ start → [] ≡ value_bytes (optimised r after)
+      pub bytes_empty : v.stop ≤ v.start → [] ≡ value_bytes (optimised r after)
       unfolding optimised value_bytes plain
       bytes_empty z = simp (x, eq-eqb _ _ y, le-ltb _ _ z)
 
-    module _ (y : tag % 128 ≡ 0x0D → ⊥) where
+    module _ (y : v.tag % 128 ≡ 0x0D → ⊥) where
       pub type_other : 0 ≡ value_type (optimised r after)
       unfolding optimised value_type plain
       type_other = simp (x, ne_eqb _ _ y)
 
-      pub bytes_other : (b : List ℕ) → b ≡ part r start stop → b ≡ value_bytes (optimised r after)
+      pub bytes_other : (b : List ℕ) → b ≡ part r v.start v.stop → b ≡ value_bytes (optimised r after)
       unfolding optimised value_bytes plain
       bytes_other b e = simp (x, ne_eqb _ _ y) e
 
@@ -136,7 +131,7 @@ pub ruleset type_laws = (type_none, type_text, type_empty, type_other)
 
 pub ruleset bytes_laws = (bytes_none, bytes_text, bytes_empty, bytes_other)
 
-module _ (r : List ℕ) (o : Bool) (after : Head) where
+module _ (r : List ℕ) (o : Bool) (after : Option Tlv) where
   module _ (x : o ≡ true) where
     pub output_type_taken : (t : ℕ) → t ≡ value_type (optimised r after) → t ≡ value_type (cond o (optimised r after) (held 0 r))
     output_type_taken t e = rw x e

@@ -1,7 +1,7 @@
 // What a response brings (clause 8.7.5): the general result, then the output.
 #![tactic(auto)]
 
-ghost use Rattle.std.specs.Prelude.{◌≡◌, true, cond, List, [], ◌∷◌, ℕ, ◌≤◌, length};
+ghost use Rattle.std.specs.Prelude.{◌≡◌, true, cond, is_ok, List, [], ◌∷◌, ℕ, ◌≤◌, length};
 ghost use Rattle.rules.specs.Page.{service};
 ghost use Rattle.rules.specs.Store.{wrote, no_room, write};
 ghost use Rattle.rules.specs.Command.{has_general, has_output, general_number, output_number, output, write_slot, results};
@@ -11,7 +11,8 @@ ghost use Rattle.variable.specs.View.{view};
 ghost use Rattle.results.specs.Asked.{asked};
 
 use leaf::wide;
-use rules::Head;
+use rules::Tlv;
+use writing::NoMemory;
 
 // The general result, where the command asks for it.
 fn write_general(
@@ -21,9 +22,9 @@ fn write_general(
     attributes: u8,
     at: usize,
     general: u8,
-) -> bool
+) -> Result<(), NoMemory>
     requires { length (service page.now) ≤ 16 }
-    ensures by_index { (env : List ℕ) (stop : ℕ) → cond (has_general (asked attributes at stop)) (write (view page.now env temp.old perm.old) (general_number page.now (asked attributes at stop)) 0 (general ∷ [])) (wrote (view page.now env temp.old perm.old)) ≡ cond result (wrote (view page.now env temp.new perm.new)) no_room }
+    ensures by_index { (env : List ℕ) (stop : ℕ) → cond (has_general (asked attributes at stop)) (write (view page.now env temp.old perm.old) (general_number page.now (asked attributes at stop)) 0 (general ∷ [])) (wrote (view page.now env temp.old perm.old)) ≡ cond (is_ok result) (wrote (view page.now env temp.new perm.new)) no_room }
     ensures temp_after { tidy_slots temp.old ≡ true → tidy_slots temp.new ≡ true }
     ensures perm_after { tidy_records perm.old ≡ true → tidy_records perm.new ≡ true }
 {
@@ -32,7 +33,7 @@ fn write_general(
         let number = slice::byte_at(page, at);
         return writing::write_variable(page, temp, perm, number, 0, &one);
     }
-    true
+    Ok(())
 }
 
 // The output, where the command asks for it.
@@ -43,10 +44,10 @@ fn write_output(
     attributes: u8,
     at: usize,
     response: &[u8],
-    after: Head,
-) -> bool
+    after: Option<Tlv>,
+) -> Result<(), NoMemory>
     requires { (length (service page.now) ≤ 16) × (at ≤ 4096) }
-    ensures by_index { (env : List ℕ) (stop : ℕ) → cond (has_output (asked attributes at stop)) (write_slot (view page.now env temp.old perm.old) (output_number page.now (asked attributes at stop)) (output response.now (asked attributes at stop) after)) (wrote (view page.now env temp.old perm.old)) ≡ cond result (wrote (view page.now env temp.new perm.new)) no_room }
+    ensures by_index { (env : List ℕ) (stop : ℕ) → cond (has_output (asked attributes at stop)) (write_slot (view page.now env temp.old perm.old) (output_number page.now (asked attributes at stop)) (output response.now (asked attributes at stop) after)) (wrote (view page.now env temp.old perm.old)) ≡ cond (is_ok result) (wrote (view page.now env temp.new perm.new)) no_room }
     ensures temp_after { tidy_slots temp.old ≡ true → tidy_slots temp.new ≡ true }
     ensures perm_after { tidy_records perm.old ≡ true → tidy_records perm.new ≡ true }
 {
@@ -57,7 +58,7 @@ fn write_output(
         let bytes = response::output_bytes(response, required, after);
         return writing::write_variable(page, temp, perm, number, valuetype, bytes);
     }
-    true
+    Ok(())
 }
 
 // The general result, then the output. Where there is no memory for the output, the general result stays written.
@@ -69,15 +70,13 @@ pub fn write_results(
     at: usize,
     general: u8,
     response: &[u8],
-    after: Head,
-) -> bool
+    after: Option<Tlv>,
+) -> Result<(), NoMemory>
     requires { (length (service page.now) ≤ 16) × (at ≤ 4096) }
-    ensures by_index { (env : List ℕ) (stop : ℕ) → results (view page.now env temp.old perm.old) (asked attributes at stop) general response.now after ≡ cond result (wrote (view page.now env temp.new perm.new)) no_room }
+    ensures by_index { (env : List ℕ) (stop : ℕ) → results (view page.now env temp.old perm.old) (asked attributes at stop) general response.now after ≡ cond (is_ok result) (wrote (view page.now env temp.new perm.new)) no_room }
     ensures temp_after { tidy_slots temp.old ≡ true → tidy_slots temp.new ≡ true }
     ensures perm_after { tidy_records perm.old ≡ true → tidy_records perm.new ≡ true }
 {
-    if write_general(page, temp, perm, attributes, at, general) {
-        return write_output(page, temp, perm, attributes, at, response, after);
-    }
-    false
+    write_general(page, temp, perm, attributes, at, general)?;
+    write_output(page, temp, perm, attributes, at, response, after)
 }

@@ -15,10 +15,6 @@ use Rattle.rules.specs.Command.{reply}
 use Rattle.rules.specs.Step.{Effect}
 use Rattle.rules.specs.Calls.{Asked, create, set_environment, load, step, run_up_to, respond, end, read_variable, Answer, told, loaded, taken, ran, responded, shown, answer_number, numbers_of, Did, admitted, lends, ready, waiting, load_by, load_refused, step_done, step_refused, run_done, run_refused, respond_done, respond_refused, respond_by, told_refused, environment_done, hidden, display, seen, read_done, act}
 use Rattle.rules.specs.IsCard.{is_card}
-use Rattle.rules.specs.declared.Reply.{Reply}
-use Rattle.rules.specs.declared.Reply.TheVariants.{Result, Malformed}
-use Rattle.rules.specs.declared.Judged.{Judged}
-use Rattle.rules.specs.declared.Judged.TheVariants.{Accepted, Rejected}
 use Rattle.rules.specs.declared.Refusal.{Refusal}
 use Rattle.rules.specs.declared.Refusal.TheVariants.{Syntax, Variable, Anchor, Memory, Security, Disallowed, Buffer, Call, Response, State}
 use Rattle.rules.specs.declared.Shown.{Shown}
@@ -27,6 +23,9 @@ use Rattle.rules.specs.declared.Outcome.TheVariants.{On, Command, Page, Ended, R
 use Rattle.rules.proofs.Choices.{both, either}
 use Rattle.rules.proofs.Refusals.{Fails, not_ended, stepped_fails, answered_fails, steps_fails}
 use Rattle.rules.proofs.Offsets.{JudgedIn, judge_in}
+use Rattle.std.specs.Prelude.{Option, Some, None, Result, Ok, Err}
+use Rattle.rules.specs.declared.Rejection.{Rejection}
+use Rattle.rules.specs.declared.Reply.{Reply}
 
 -- the answer has one of some numbers
 abbrev Answers : List ℕ → Did → Type 0
@@ -78,15 +77,15 @@ offset_of (responded o buffer reference) = 0
 offset_of (shown s) = 0
 
 module _ (c : Card) where
-  load_answers : (s : List ℕ) (j : Judged) → JudgedIn (length s) j → Answers (numbers_of (load s)) (load_by s c j)
+  load_answers : (s : List ℕ) (j : Result (Unit {0}) Rejection) → JudgedIn (length s) j → Answers (numbers_of (load s)) (load_by s c j)
   unfolding load_by answer_number loaded_number numbers_of among
-  load_answers s Accepted h = refl
-  load_answers s (Rejected class at) h = among_more 0 class (1 ∷ 2 ∷ 3 ∷ 4 ∷ 5 ∷ 6 ∷ 7 ∷ []) (33 ∷ 35 ∷ []) h.0
+  load_answers s (Ok u) h = refl
+  load_answers s (Err e) h = among_more 0 e.class (1 ∷ 2 ∷ 3 ∷ 4 ∷ 5 ∷ 6 ∷ 7 ∷ []) (33 ∷ 35 ∷ []) h.0
 
-  respond_answers : (response buffer : List ℕ) (r : Reply) → Answers (numbers_of (respond response buffer)) (respond_by response buffer c r)
+  respond_answers : (response buffer : List ℕ) (r : Option Reply) → Answers (numbers_of (respond response buffer)) (respond_by response buffer c r)
   unfolding respond_by respond_done respond_refused answer_number outcome_number number numbers_of among
-  respond_answers response buffer (Result g after) = ending_among (numbers_of (respond response buffer)) refl refl refl refl refl refl c _ (answered_fails c g response after)
-  respond_answers response buffer Malformed = refl
+  respond_answers response buffer (Some a) = ending_among (numbers_of (respond response buffer)) refl refl refl refl refl refl c _ (answered_fails c a.general response a.after)
+  respond_answers response buffer None = refl
 
   environment_answers : (n : ℕ) (value : List ℕ) → Answers (numbers_of (set_environment n value)) (environment_done n value c)
   unfolding environment_done told_refused answer_number told_number number numbers_of among
@@ -112,10 +111,10 @@ module _ (c : Card) where
   numbers_of_the_table (read_variable n id) =
       either (λ (s : Shown). among (numbers_of (read_variable n id)) s.number ≡ true) (is_card c) (λ _. display_answers n id (seen (area n) c n id)) (λ _. refl)
 
-  loaded_offset : (s : List ℕ) (j : Judged) → JudgedIn (length s) j → offset_of (load_by s c j).answer ≤ length s
+  loaded_offset : (s : List ℕ) (j : Result (Unit {0}) Rejection) → JudgedIn (length s) j → offset_of (load_by s c j).answer ≤ length s
   unfolding load_by offset_of offset
-  loaded_offset s Accepted h = omega arith
-  loaded_offset s (Rejected class at) h = h.1
+  loaded_offset s (Ok u) h = omega arith
+  loaded_offset s (Err e) h = h.1
 
   -- An offset is at most the page's length.
   pub offset_in_page : (s : List ℕ) → offset_of (act (load s) c).answer ≤ length s

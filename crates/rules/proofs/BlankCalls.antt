@@ -15,12 +15,6 @@ use Rattle.rules.specs.Command.{result_complaint, reply}
 use Rattle.rules.specs.Step.{ByteCode, setting_variables, going_back, branching, exiting, executing, getting_length, unknown, byte_code, Effect, here, stepped}
 use Rattle.rules.specs.IsCard.{sends_by, sends, hand_fine, run_fine, areas_fine, is_card}
 use Rattle.rules.specs.Calls.{Asked, create, set_environment, load, step, run_up_to, respond, end, read_variable, Answer, Did, did, buffer_after, reference_after, ready, waiting, admitted, load_by, load_refused, step_done, step_refused, Counted, goes_on, steps, run_done, run_refused, respond_done, respond_refused, respond_by, told_refused, environment_done, seen, read_done, act}
-use Rattle.rules.specs.declared.Head.{Head}
-use Rattle.rules.specs.declared.Head.TheVariants.{Tlv, Past}
-use Rattle.rules.specs.declared.Judged.{Judged}
-use Rattle.rules.specs.declared.Judged.TheVariants.{Accepted, Rejected}
-use Rattle.rules.specs.declared.Reply.{Reply}
-use Rattle.rules.specs.declared.Reply.TheVariants.{Result, Malformed}
 use Rattle.rules.specs.declared.Refusal.{Refusal}
 use Rattle.rules.specs.declared.Refusal.TheVariants.{Buffer, Call, State}
 use Rattle.rules.specs.declared.Outcome.{Outcome}
@@ -28,6 +22,10 @@ use Rattle.rules.specs.declared.Outcome.TheVariants.{On, Command, Page, Ended, R
 use Rattle.rules.proofs.BlankTests.{two_cond}
 use Rattle.rules.proofs.BlankStore.{length_veils, records_veil, room_veil, look_veil}
 use Rattle.rules.proofs.BlankStep.{see, see_effect, Safe, Effects, rested_safe, stepped_ok, answered_ok}
+use Rattle.std.specs.Prelude.{Option, Some, None, Result, Ok, Err}
+use Rattle.rules.specs.declared.Tlv.{Tlv}
+use Rattle.rules.specs.declared.Rejection.{Rejection}
+use Rattle.rules.specs.declared.Reply.{Reply}
 
 -- number 35 does not look at what is hidden
 module _ (hides : List ℕ → Bool) (c : Card) where
@@ -41,10 +39,10 @@ module _ (hides : List ℕ → Bool) (c : Card) where
   sends_by_see tag start stop getting_length = refl
   sends_by_see tag start stop unknown = refl
 
-  sends_see : (h : Head) → sends (see hides c) h ≡ sends c h
+  sends_see : (h : Option Tlv) → sends (see hides c) h ≡ sends c h
   unfolding sends
-  sends_see (Tlv tag start stop) = sends_by_see tag start stop (byte_code tag)
-  sends_see Past = refl
+  sends_see (Some h) = sends_by_see h.tag h.start h.stop (byte_code h.tag)
+  sends_see None = refl
 
   hand_fine_see : (h : Hand) → hand_fine (see hides c) h ≡ hand_fine c h
   unfolding hand_fine here
@@ -127,10 +125,10 @@ module _ (hides : List ℕ → Bool) (shown-none : hides [] ≡ false) (m : List
         rw (is_card_see hides c)
         (two_cond (Calls hides m) lent (two_cond (Calls hides m) (is_card c) (two_cond (Calls hides m) fitting k (h Call)) (h State)) (h Buffer))
 
-    load_by_ok : (s : List ℕ) → hides (service s) ≡ false → (j : Judged) → Calls hides m (load_by s (see hides c) j) (load_by s c j)
+    load_by_ok : (s : List ℕ) → hides (service s) ≡ false → (j : Result (Unit {0}) Rejection) → Calls hides m (load_by s (see hides c) j) (load_by s c j)
     unfolding load_by started with_run with_wanted with_guard with_temporary
-    load_by_ok s h Accepted = record { sees = refl; safe = record { clean = h; kept = safe.kept } }
-    load_by_ok s h (Rejected class at) = stays _
+    load_by_ok s h (Ok u) = record { sees = refl; safe = record { clean = h; kept = safe.kept } }
+    load_by_ok s h (Err e) = stays _
 
     step_done_ok : (buffer : List ℕ) {x y : Effect} → Effects hides m x y → Calls hides m (step_done buffer (see hides c) x) (step_done buffer c y)
     unfolding step_done here
@@ -150,10 +148,10 @@ module _ (hides : List ℕ → Bool) (shown-none : hides [] ≡ false) (m : List
         rw (o.sees, buffer_after_see hides y.card buffer y.outcome, reference_after_see hides y.card y.outcome)
         (record { sees = refl; safe = o.safe })
 
-    respond_by_ok : (response buffer : List ℕ) (r : Reply) → Calls hides m (respond_by response buffer (see hides c) r) (respond_by response buffer c r)
+    respond_by_ok : (response buffer : List ℕ) (r : Option Reply) → Calls hides m (respond_by response buffer (see hides c) r) (respond_by response buffer c r)
     unfolding respond_by respond_refused
-    respond_by_ok response buffer (Result g after) = respond_done_ok buffer (answered_ok hides shown-none m c safe g response after)
-    respond_by_ok response buffer Malformed = stays _
+    respond_by_ok response buffer (Some a) = respond_done_ok buffer (answered_ok hides shown-none m c safe a.general response a.after)
+    respond_by_ok response buffer None = stays _
 
     environment_done_ok : (n : ℕ) (value : List ℕ) → Calls hides m (environment_done n value (see hides c)) (environment_done n value c)
     unfolding environment_done told_refused with_environment

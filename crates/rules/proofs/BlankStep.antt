@@ -23,8 +23,6 @@ use Rattle.rules.specs.Trail.{last, lowered}
 use Rattle.rules.specs.Command.{Execute, execute_of, result_complaint, indicator_complaint, execute_complaint, simple_tlvs, allowed, expanded, command_body, command, has_general, has_output, general_number, output_number, output, write_slot, then_output, results}
 use Rattle.rules.specs.Step.{Move, onwards, jump, away, back, send, finish, Plan, refuses, does, runs_out, unless, storing, branch_by, branch, perform, number_before, setting_complaint, then_set, set_all, set_variable, list_at, get_length, case_value, cases_complaint, follow, case_choice, choose, chosen, branch_on_slot, branch_on_value, exit, execute}
 use Rattle.rules.specs.Step.{ByteCode, setting_variables, going_back, branching, exiting, executing, getting_length, unknown, byte_code, plan_by, plan_for, here, decide, with_results, answer_by, answer_for, Effect, effect, marked, placed, entered, sending, leaving, wanting, back_to, go_back, moved, failed, applied, stepped, answered}
-use Rattle.rules.specs.declared.Head.{Head}
-use Rattle.rules.specs.declared.Head.TheVariants.{Tlv, Past}
 use Rattle.rules.specs.declared.Target.{Target}
 use Rattle.rules.specs.declared.Target.TheVariants.{Unit as Own, Lacking, Other}
 use Rattle.rules.specs.declared.Action.{Action}
@@ -39,6 +37,8 @@ use Rattle.rules.specs.declared.Outcome.{Outcome}
 use Rattle.rules.specs.declared.Outcome.TheVariants.{Page, Ended, Refused}
 use Rattle.rules.proofs.BlankTests.{two_cond}
 use Rattle.rules.proofs.BlankStore.{veils, hiddens, length_veils, place_veil, room_veil, look_veil, write_veil, hiddens_write}
+use Rattle.std.specs.Prelude.{Option, Some, None}
+use Rattle.rules.specs.declared.Tlv.{Tlv}
 
 -- the card as one sees it who does not know the hidden values
 abbrev pub see : (List ℕ → Bool) → Card → Card
@@ -135,16 +135,16 @@ module _ (hides : List ℕ → Bool) (c : Card) (clean : hides (service c.run.pa
   setting_complaint_see known (tlv tag at start stop rest) =
       rw (complaint_see known (pieces_of c.run.page tag start stop), setting_complaint_see (number_before c at ∷ known) rest)
 
-  list_at_see : (h : Head) → list_at (see hides c) h ≡ list_at c h
+  list_at_see : (h : Option Tlv) → list_at (see hides c) h ≡ list_at c h
   unfolding list_at
-  list_at_see (Tlv tag start stop) = refl
-  list_at_see Past = refl
+  list_at_see (Some h) = refl
+  list_at_see None = refl
 
-  case_choice_see : (bytes : List ℕ) (stop : ℕ) {x y : Choice} → x ≡ y → (h : Head) → case_choice (see hides c) bytes stop x h ≡ case_choice c bytes stop y h
+  case_choice_see : (bytes : List ℕ) (stop : ℕ) {x y : Choice} → x ≡ y → (h : Option Tlv) → case_choice (see hides c) bytes stop x h ≡ case_choice c bytes stop y h
   unfolding case_choice
-  case_choice_see bytes stop e (Tlv tag from to) =
-      rw (e, complaint_see [] (case_value c.run.page tag from to), joined_see (case_value c.run.page tag from to))
-  case_choice_see bytes stop e Past = e
+  case_choice_see bytes stop e (Some h) =
+      rw (e, complaint_see [] (case_value c.run.page h.tag h.start h.stop), joined_see (case_value c.run.page h.tag h.start h.stop))
+  case_choice_see bytes stop e None = e
 
   choose_see : (bytes : List ℕ) (row : Tlvs) → choose (see hides c) bytes row ≡ choose c bytes row
   unfolding choose
@@ -243,13 +243,13 @@ module _ (hides : List ℕ → Bool) (m : List Record) where
       rw (type_for_see hides c h.clean tag start stop, joined_see hides c h.clean (pieces_of c.run.page tag start stop))
       (then_set_ok (λ d. set_all rest d) (set_all_ok rest) (write_ok c h (number_before c at) (type_for c tag start stop) (joined c (pieces_of c.run.page tag start stop))))
 
-  then_output_ok : (r : List ℕ) (x : Execute) (after : Head) {v w : Written} → Writes hides m v w → Writes hides m (then_output r x after v) (then_output r x after w)
+  then_output_ok : (r : List ℕ) (x : Execute) (after : Option Tlv) {v w : Written} → Writes hides m v w → Writes hides m (then_output r x after v) (then_output r x after w)
   unfolding then_output
   then_output_ok r x after (both_wrote {c = d} h) =
       two_cond (Writes hides m) (has_output x) (write_slot_ok d h (output_number d.run.page x) (output r x after)) (both_wrote h)
   then_output_ok r x after both_full = both_full
 
-  results_ok : (c : Card) → Safe hides m c → (x : Execute) (g : ℕ) (r : List ℕ) (after : Head) → Writes hides m (results (see hides c) x g r after) (results c x g r after)
+  results_ok : (c : Card) → Safe hides m c → (x : Execute) (g : ℕ) (r : List ℕ) (after : Option Tlv) → Writes hides m (results (see hides c) x g r after) (results c x g r after)
   unfolding results
   results_ok c h x g r after =
       then_output_ok r x after (two_cond (Writes hides m) (has_general x) (write_ok c h (general_number c.run.page x) 0 (g ∷ [])) (both_wrote h))
@@ -299,17 +299,17 @@ module _ (hides : List ℕ → Bool) (m : List Record) where
     plan_by_ok tag start stop getting_length = get_length_ok start stop
     plan_by_ok tag start stop unknown = both_refuse Syntax
 
-    plan_for_ok : (h : Head) → Plans hides m (plan_for (see hides c) h) (plan_for c h)
+    plan_for_ok : (h : Option Tlv) → Plans hides m (plan_for (see hides c) h) (plan_for c h)
     unfolding plan_for
-    plan_for_ok (Tlv tag start stop) = plan_by_ok tag start stop (byte_code tag)
-    plan_for_ok Past = both_out
+    plan_for_ok (Some h) = plan_by_ok h.tag h.start h.stop (byte_code h.tag)
+    plan_for_ok None = both_out
 
-    answer_for_ok : (g : ℕ) (r : List ℕ) (after h : Head) → Plans hides m (answer_for (see hides c) g r after h) (answer_for c g r after h)
+    answer_for_ok : (g : ℕ) (r : List ℕ) (after h : Option Tlv) → Plans hides m (answer_for (see hides c) g r after h) (answer_for c g r after h)
     unfolding answer_for answer_by
-    answer_for_ok g r after (Tlv tag start stop) =
-        let x = execute_of c.run.page tag start stop in
+    answer_for_ok g r after (Some h) =
+        let x = execute_of c.run.page h.tag h.start h.stop in
         with_results_ok (results_ok c safe x g r after) (perform_ok c safe x.stop (send (in_hand c.run.hand)) (handle c.run.page c.run.unit g))
-    answer_for_ok g r after Past = both_out
+    answer_for_ok g r after None = both_out
 
 -- no page runs: there is no service
 service_none : service [] ≡ []
@@ -356,6 +356,6 @@ module _ (hides : List ℕ → Bool) (shown-none : hides [] ≡ false) (m : List
   unfolding stepped decide here
   stepped_ok c h = applied_ok c h (plan_for_ok hides m c h (here c))
 
-  pub answered_ok : (c : Card) → Safe hides m c → (g : ℕ) (r : List ℕ) (after : Head) → Effects hides m (answered (see hides c) g r after) (answered c g r after)
+  pub answered_ok : (c : Card) → Safe hides m c → (g : ℕ) (r : List ℕ) (after : Option Tlv) → Effects hides m (answered (see hides c) g r after) (answered c g r after)
   unfolding answered here
   answered_ok c h g r after = applied_ok c h (answer_for_ok hides m c h g r after (here c))

@@ -12,12 +12,12 @@ use Rattle.rules.specs.Page.{row_of, part_in, page_row, unit_in, unit_at, anchor
 use Rattle.rules.specs.Reference.{unit_from, own_unit, is_own, mark, target_by, target}
 use Rattle.rules.specs.Card.{Card}
 use Rattle.rules.specs.Step.{refuses, branch_by, branch}
-use Rattle.rules.specs.declared.Head.TheVariants.{Tlv}
-use Rattle.rules.specs.declared.Spot.TheVariants.{After}
 use Rattle.rules.specs.declared.Target.{Target}
 use Rattle.rules.specs.declared.Target.TheVariants.{Unit, Lacking, Other}
 use Rattle.rules.specs.declared.Refusal.TheVariants.{Anchor}
 use Rattle.rules.proofs.Choices.{both}
+use Rattle.std.specs.Prelude.{Some}
+use Rattle.rules.specs.Built.{some_tlv}
 
 unit_lacking : (k : ℕ) → Unit k ≡ Lacking → ⊥
 unit_lacking k e = let z : ◌≡◌ {A = ℕ} 0 1 = cc in omega arith
@@ -27,7 +27,7 @@ module _ (s name : List ℕ) where
   abbrev None : Tlvs → Type 0
   None r = (j : ℕ) → holds s name (anchor_in s (unit_in j r)) ≡ false
 
-  unit_none : (tag at start stop : ℕ) (rest : Tlvs) → holds s name (anchor_in s (Tlv tag start stop)) ≡ false → None rest → None (tlv tag at start stop rest)
+  unit_none : (tag at start stop : ℕ) (rest : Tlvs) → holds s name (anchor_in s (some_tlv tag start stop)) ≡ false → None rest → None (tlv tag at start stop rest)
   unfolding unit_in
   unit_none tag at start stop rest h f j =
       both (eqb (plain tag) 0x0A)
@@ -44,12 +44,12 @@ module _ (s name : List ℕ) where
   lacking_none k (past p) h = λ j. refl
   lacking_none k (tlv tag at start stop rest) h =
       both (eqb (plain tag) 0x0A)
-      (λ t. both (holds s name (anchor_in s (Tlv tag start stop)))
+      (λ t. both (holds s name (anchor_in s (some_tlv tag start stop)))
       (λ u. let z : ◌≡◌ {A = Target} (Unit k) Lacking = simp (t, u) at h in absurd (unit_lacking k z))
       (λ u. unit_none tag at start stop rest u (lacking_none (k + 1) rest (simp (t, u) at h))))
       (λ t. other_none tag at start stop rest t (lacking_none k rest (simp t at h)))
 
-  none_unit : (tag at start stop : ℕ) (rest : Tlvs) → eqb (plain tag) 0x0A ≡ true → None (tlv tag at start stop rest) → (holds s name (anchor_in s (Tlv tag start stop)) ≡ false) × None rest
+  none_unit : (tag at start stop : ℕ) (rest : Tlvs) → eqb (plain tag) 0x0A ≡ true → None (tlv tag at start stop rest) → (holds s name (anchor_in s (some_tlv tag start stop)) ≡ false) × None rest
   unfolding unit_in
   none_unit tag at start stop rest t f = (simp t at (f 0), λ j. simp (t, ne_eqb (j + 1) 0 (λ e. omega arith), back j) at (f (j + 1)))
     where
@@ -67,7 +67,7 @@ module _ (s name : List ℕ) where
 
 -- A reference to an anchor of the page itself: its page part is empty or names the page, and it has an anchor part.
 pub record OwnAnchor (s r : List ℕ) (n : ℕ) : Type 0 where
-  pub split : mark r ≡ After n
+  pub split : mark r ≡ Some n
   pub own : is_own s (take n r) ≡ true
   pub named : length (drop (n + 1) r) ≡ 0 → ⊥
 

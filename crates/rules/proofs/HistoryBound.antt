@@ -20,8 +20,6 @@ use Rattle.rules.specs.Store.{Area, environmental, permanently, temporarily, str
 use Rattle.rules.specs.Step.{Move, onwards, jump, away, back, send, finish, Plan, refuses, does, runs_out, unless, storing, branch_by, branch, perform, then_set, set_all, set_variable, get_length, chosen, branch_on_slot, branch_on_value, exit, execute, ByteCode, setting_variables, going_back, branching, exiting, executing, getting_length, unknown, byte_code, plan_by, plan_for, decide, here, with_results, answer_by, answer_for, Effect, marked, placed, entered, sending, leaving, wanting, back_to, go_back, moved, failed, applied, stepped, answered}
 use Rattle.rules.specs.Calls.{Asked, create, set_environment, load, step, run_up_to, respond, end, read_variable, Did, admitted, lends, ready, waiting, load_by, load_refused, step_done, step_refused, Counted, goes_on, steps, run_done, run_refused, respond_done, respond_refused, respond_by, told_refused, environment_done, act}
 use Rattle.rules.specs.IsCard.{is_card}
-use Rattle.rules.specs.declared.Head.{Head}
-use Rattle.rules.specs.declared.Head.TheVariants.{Tlv, Past}
 use Rattle.rules.specs.declared.Target.{Target}
 use Rattle.rules.specs.declared.Target.TheVariants.{Unit, Lacking, Other}
 use Rattle.rules.specs.declared.Action.{Action}
@@ -30,13 +28,13 @@ use Rattle.rules.specs.declared.Choice.{Choice}
 use Rattle.rules.specs.declared.Choice.TheVariants.{Follow, Stay, Unknown}
 use Rattle.rules.specs.declared.Complaint.{Complaint}
 use Rattle.rules.specs.declared.Complaint.TheVariants.{Nothing, Undefined, Secured, Misused}
-use Rattle.rules.specs.declared.Reply.{Reply}
-use Rattle.rules.specs.declared.Reply.TheVariants.{Result, Malformed}
-use Rattle.rules.specs.declared.Judged.{Judged}
-use Rattle.rules.specs.declared.Judged.TheVariants.{Accepted, Rejected}
 use Rattle.rules.specs.declared.Refusal.{Refusal}
 use Rattle.rules.specs.declared.Refusal.TheVariants.{Memory, Buffer, Call, State}
 use Rattle.rules.proofs.Choices.{both, either}
+use Rattle.std.specs.Prelude.{Option, Some, None, Result, Ok, Err}
+use Rattle.rules.specs.declared.Tlv.{Tlv}
+use Rattle.rules.specs.declared.Rejection.{Rejection}
+use Rattle.rules.specs.declared.Reply.{Reply}
 
 short_push : (es : List (List ℕ)) (e : List ℕ) → length es ≤ 16 → length (pushed es e) ≤ 16
 unfolding pushed
@@ -106,15 +104,15 @@ unfolding write_slot
 slot_by c n free = refl
 slot_by c n (held type bytes) = write_by c n type bytes
 
-out_by : (d : Card) (r : List ℕ) (x : Execute) (after : Head) → WrittenBy d (cond (has_output x) (write_slot d (output_number d.run.page x) (output r x after)) (wrote d))
+out_by : (d : Card) (r : List ℕ) (x : Execute) (after : Option Tlv) → WrittenBy d (cond (has_output x) (write_slot d (output_number d.run.page x) (output r x after)) (wrote d))
 out_by d r x after = either (WrittenBy d) (has_output x) {a = write_slot d (output_number d.run.page x) (output r x after)} {b = wrote d} (λ _. slot_by d _ _) (λ _. refl)
 
-output_by : (c : Card) (r : List ℕ) (x : Execute) (after : Head) (w : Written) → WrittenBy c w → WrittenBy c (then_output r x after w)
+output_by : (c : Card) (r : List ℕ) (x : Execute) (after : Option Tlv) (w : Written) → WrittenBy c w → WrittenBy c (then_output r x after w)
 unfolding then_output
 output_by c r x after (wrote d) h = before_by c d h (cond (has_output x) (write_slot d (output_number d.run.page x) (output r x after)) (wrote d)) (out_by d r x after)
 output_by c r x after no_room h = tt
 
-results_by : (c : Card) (x : Execute) (g : ℕ) (r : List ℕ) (after : Head) → WrittenBy c (results c x g r after)
+results_by : (c : Card) (x : Execute) (g : ℕ) (r : List ℕ) (after : Option Tlv) → WrittenBy c (results c x g r after)
 unfolding results
 results_by c x g r after =
     output_by c r x after _ (either (WrittenBy c) (has_general x) {b = wrote c} (λ _. write_by c (general_number c.run.page x) 0 (g ∷ [])) (λ _. refl))
@@ -184,10 +182,10 @@ code_by c tag start stop executing = execute_by c _
 code_by c tag start stop getting_length = unless_by c _ _ (storing_by c _ _ (write_by c _ _ _))
 code_by c tag start stop unknown = tt
 
-plan_by_lem : (c : Card) (h : Head) → PlannedBy c (plan_for c h)
+plan_by_lem : (c : Card) (h : Option Tlv) → PlannedBy c (plan_for c h)
 unfolding plan_for
-plan_by_lem c (Tlv tag start stop) = code_by c tag start stop (byte_code tag)
-plan_by_lem c Past = tt
+plan_by_lem c (Some h) = code_by c h.tag h.start h.stop (byte_code h.tag)
+plan_by_lem c None = tt
 
 with_by : (c : Card) (w : Written) → WrittenBy c w → (p : Plan) → PlannedBy c p → PlannedBy c (with_results w p)
 unfolding with_results
@@ -195,10 +193,10 @@ with_by c w h (refuses r) q = tt
 with_by c w h (does d m) q = storing_by c m w h
 with_by c w h runs_out q = tt
 
-answer_by_lem : (c : Card) (g : ℕ) (r : List ℕ) (after h : Head) → PlannedBy c (answer_for c g r after h)
+answer_by_lem : (c : Card) (g : ℕ) (r : List ℕ) (after h : Option Tlv) → PlannedBy c (answer_for c g r after h)
 unfolding answer_for answer_by
-answer_by_lem c g r after (Tlv tag start stop) = with_by c _ (results_by c _ g r after) _ (perform_by c _ _ _)
-answer_by_lem c g r after Past = tt
+answer_by_lem c g r after (Some h) = with_by c _ (results_by c _ g r after) _ (perform_by c _ _ _)
+answer_by_lem c g r after None = tt
 
 -- what is done leaves a short history short
 module _ (c : Card) (l : Short c) where
@@ -245,15 +243,15 @@ module _ (c : Card) (l : Short c) where
       (λ _. either (λ (d : Did). Short d.card) (is_card c) (λ _. either (λ (d : Did). Short d.card) fitting (λ _. g) (λ _. rw (f Call) l)) (λ _. rw (f State) l))
       (λ _. rw (f Buffer) l)
 
-  load_short : (s : List ℕ) (j : Judged) → Short (load_by s c j).card
+  load_short : (s : List ℕ) (j : Result (Prim.Unit {0}) Rejection) → Short (load_by s c j).card
   unfolding load_by started with_run with_wanted with_guard with_temporary
-  load_short s Accepted = l
-  load_short s (Rejected class at) = l
+  load_short s (Ok u) = l
+  load_short s (Err e) = l
 
-  reply_short : (response buffer : List ℕ) (a : Reply) → Short (respond_by response buffer c a).card
+  reply_short : (response buffer : List ℕ) (a : Option Reply) → Short (respond_by response buffer c a).card
   unfolding respond_by respond_done respond_refused answered
-  reply_short response buffer (Result g after) = applied_short c l (answer_for c g response after (here c)) (answer_by_lem c g response after (here c))
-  reply_short response buffer Malformed = l
+  reply_short response buffer (Some a) = applied_short c l (answer_for c a.general response a.after (here c)) (answer_by_lem c a.general response a.after (here c))
+  reply_short response buffer None = l
 
   environment_short : (n : ℕ) (value : List ℕ) → Short (environment_done n value c).card
   unfolding environment_done told_refused with_environment

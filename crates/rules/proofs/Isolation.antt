@@ -18,10 +18,6 @@ use Rattle.rules.specs.Carried.{equal, carries, presents}
 use Rattle.rules.specs.Hidden.{blank_type, blank, only, records_of, unguarded, Alike, creates, reads, reads_temporary, page_in, some, loads_accepted, before, first_page, Unasked, Isolated}
 use Rattle.rules.specs.declared.Refusal.{Refusal}
 use Rattle.rules.specs.declared.Refusal.TheVariants.{Buffer, Call}
-use Rattle.rules.specs.declared.Told.TheVariants.{Done}
-use Rattle.rules.specs.declared.Loaded.TheVariants.{Started}
-use Rattle.rules.specs.declared.Judged.{Judged}
-use Rattle.rules.specs.declared.Judged.TheVariants.{Accepted, Rejected}
 use Rattle.rules.proofs.Choices.{both}
 use Rattle.rules.proofs.Offsets.{tests}
 use Rattle.rules.proofs.BlankTests.{first, second, unbarred, two_cond, neither_left, neither_right}
@@ -32,6 +28,8 @@ use Rattle.rules.proofs.IsolationPage.{hidden, uncarried, unopened}
 use Rattle.rules.proofs.StaysCardParts.{parts_of, of_parts}
 use Rattle.rules.proofs.StaysCard.{stays_card_all}
 use Rattle.rules.proofs.StaysCardStore.{Numbered, numbered, slots_free, room_free, environment_card}
+use Rattle.std.specs.Prelude.{Result, Ok, Err}
+use Rattle.rules.specs.declared.Rejection.{Rejection}
 
 -- a call that creates no card, reads no variable of the service and loads no page with its ID is quiet
 quiet_call : (id : List ℕ) (k : Asked) → creates k ≡ false → reads id k ≡ false → carries id (page_in k) ≡ false → Quiet (hidden id) k
@@ -176,16 +174,16 @@ module _ (id : List ℕ) where
         (λ t'. rw t' (stays q _))
         (λ t'. rw t' (
         let i = ih (set e n (held 3 v)) p t g h w (environment_card c n v card refl (omega tests)) q in
-        record { answered = ap (λ (l : List Answer). told Done ∷ l) i.0; kept = i.1 }))))
+        record { answered = ap (λ (l : List Answer). told (Ok tt) ∷ l) i.0; kept = i.1 }))))
 
-    loaded_like : (s : List ℕ) (j : Judged) → judge s ≡ j → Asks id g (load s ∷ ks) → Like id (hiddens (hidden id) p) ks (load_by s c j) (load_by s d j)
+    loaded_like : (s : List ℕ) (j : Result (Unit {0}) Rejection) → judge s ≡ j → Asks id g (load s ∷ ks) → Like id (hiddens (hidden id) p) ks (load_by s c j) (load_by s d j)
     unfolding load_by started with_run with_wanted with_guard with_temporary first_page loads_accepted page_in is_accepted opened_by
-    loaded_like s Accepted j q =
+    loaded_like s (Ok u) j q =
         let shut : presents g s ≡ false = rw (j, first_page) at q.shut in
         let o = all_after id (hiddens (hidden id) p) ks (started s c) (record { clean = quiet_head id (load s) ks q.quiets; kept = refl }) (quiet_tail id (load s) ks q.quiets) in
         let e : answers ks (started s c) ≡ answers ks (started s d) = rw (← unopened g s t shut) (sym o.answered) in
-        record { answered = ap (λ (l : List Answer). loaded Started ∷ l) e; kept = o.kept }
-    loaded_like s (Rejected class at) j q = stays (asks_tail id g (load s) ks (rw j) q) _
+        record { answered = ap (λ (l : List Answer). loaded (Ok tt) ∷ l) e; kept = o.kept }
+    loaded_like s (Err e) j q = stays (asks_tail id g (load s) ks (rw j) q) _
 
     seen_like : (n : ℕ) (i : List ℕ) → Asks id g (read_variable n i ∷ ks) → (a : Area) → area n ≡ a → seen a c n i ≡ seen a d n i
     unfolding seen before loads_accepted page_in is_accepted judge some reads_temporary

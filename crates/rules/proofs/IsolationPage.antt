@@ -17,31 +17,28 @@ use Rattle.rules.specs.Card.{Slot, Guard, unlocked, locked}
 use Rattle.rules.specs.Keep.{cleared, unlocks, opened_by}
 use Rattle.rules.specs.Carried.{equal, Cutting, cutting, too_few, cut_after, one_more, two_more, measured, Field, field, field_then, fields, past_attributes, inside, page_fields, holding, carries, presents}
 use Rattle.rules.specs.Hidden.{unguarded}
-use Rattle.rules.specs.declared.Length.{Length}
-use Rattle.rules.specs.declared.Length.TheVariants.{Got, Bad}
-use Rattle.rules.specs.declared.Head.{Head}
-use Rattle.rules.specs.declared.Head.TheVariants.{Tlv, Past}
-use Rattle.rules.specs.declared.Part.{Part}
-use Rattle.rules.specs.declared.Part.TheVariants.{Held, Missing}
 use Rattle.rules.proofs.Choices.{both, not_so}
 use Rattle.rules.proofs.Writes.{same_eq, same_refl}
 use Rattle.rules.proofs.Offsets.{tests}
 use Rattle.rules.proofs.BlankTests.{neither_left, neither_right, equal_same}
 use Rattle.rules.proofs.StaysCardStore.{cleared_free}
 use Rattle.rules.proofs.IsolationRows.{length_part, part_none, part_cons, take_part, drop_part, part_all, Row, tlv_in, row_of_lem}
+use Rattle.std.specs.Prelude.{Option, Some, None}
+use Rattle.rules.specs.declared.Tlv.{Tlv}
+use Rattle.rules.specs.declared.Span.{Span}
 
 -- the hidden service: no ID is none's
 unfoldable pub hidden : List ℕ → List ℕ → Bool
 hidden service id = cond (eqb (length id) 0) false (equal id service)
 
 -- what a TLV found by its place cuts off
-abbrev cut_by : List ℕ → ℕ → Head → Cutting
-cut_by s end (Tlv tag start stop) = cutting (part s start stop) (part s stop end)
-cut_by s end Past = too_few
+abbrev cut_by : List ℕ → ℕ → Option Tlv → Cutting
+cut_by s end (Some h) = cutting (part s h.start h.stop) (part s h.stop end)
+cut_by s end None = too_few
 
-abbrev field_by : (List ℕ → List Field) → List ℕ → ℕ → Head → List Field
-field_by more s end (Tlv tag start stop) = field tag (part s start stop) ∷ more (part s stop end)
-field_by more s end Past = []
+abbrev field_by : (List ℕ → List Field) → List ℕ → ℕ → Option Tlv → List Field
+field_by more s end (Some h) = field h.tag (part s h.start h.stop) ∷ more (part s h.stop end)
+field_by more s end None = []
 
 -- the TLVs of a row, by tags and values
 abbrev fields_of : List ℕ → Tlvs → List Field
@@ -50,7 +47,7 @@ fields_of s (past p) = []
 fields_of s (tlv tag at start stop rest) = field tag (part s start stop) ∷ fields_of s rest
 
 module _ (s : List ℕ) (end : ℕ) (fits : end ≤ length s) where
-  cut_after_is : (tag n start : ℕ) → start ≤ end → cut_after n (part s start end) ≡ cut_by s end (head_of tag end (Got n start))
+  cut_after_is : (tag n start : ℕ) → start ≤ end → cut_after n (part s start end) ≡ cut_by s end (head_of tag end (Some (n, start)))
   unfolding cut_after head_of
   cut_after_is tag n start h =
       rw (length_part s start end fits)
@@ -58,7 +55,7 @@ module _ (s : List ℕ) (end : ℕ) (fits : end ≤ length s) where
       (λ t. rw t)
       (λ t. rw (t, take_part s n start end (omega tests), drop_part s n start end)))
 
-  one_more_is : (tag at : ℕ) → one_more (part s (at + 1) end) ≡ cut_by s end (head_of tag end (cond (ltb (end - at) 2) Bad (Got (get_or s (at + 1) 0) (at + 2))))
+  one_more_is : (tag at : ℕ) → one_more (part s (at + 1) end) ≡ cut_by s end (head_of tag end (cond (ltb (end - at) 2) None (Some ((get_or s (at + 1) 0), (at + 2)))))
   unfolding one_more head_of
   one_more_is tag at =
       both (ltb (end - at) 2)
@@ -66,7 +63,7 @@ module _ (s : List ℕ) (end : ℕ) (fits : end ≤ length s) where
       (λ t. let e : at + 1 + 1 ≡ at + 2 = omega arith in
       rw (t, part_cons s (at + 1) end (omega tests) fits, e) (cut_after_is tag (get_or s (at + 1) 0) (at + 2) (omega tests)))
 
-  two_more_is : (tag at : ℕ) → two_more (part s (at + 1) end) ≡ cut_by s end (head_of tag end (cond (ltb (end - at) 3) Bad (Got (get_or s (at + 1) 0 * 256 + get_or s (at + 2) 0) (at + 3))))
+  two_more_is : (tag at : ℕ) → two_more (part s (at + 1) end) ≡ cut_by s end (head_of tag end (cond (ltb (end - at) 3) None (Some ((get_or s (at + 1) 0 * 256 + get_or s (at + 2) 0), (at + 3)))))
   unfolding two_more head_of
   two_more_is tag at =
       let e : at + 1 + 1 ≡ at + 2 = omega arith in
@@ -93,10 +90,10 @@ module _ (s : List ℕ) (end : ℕ) (fits : end ≤ length s) where
       (λ w. rw w)))))))
 
   -- the search of the bytes finds the TLVs of the row
-  field_then_lem : (more : List ℕ → List Field) (tag : ℕ) (l : Length) → field_then more tag (cut_by s end (head_of tag end l)) ≡ field_by more s end (head_of tag end l)
+  field_then_lem : (more : List ℕ → List Field) (tag : ℕ) (l : Option (ℕ × ℕ)) → field_then more tag (cut_by s end (head_of tag end l)) ≡ field_by more s end (head_of tag end l)
   unfolding head_of field_then
-  field_then_lem more tag (Got n start) = both (ltb (end - start) n) (λ t. rw t) (λ t. rw t)
-  field_then_lem more tag Bad = refl
+  field_then_lem more tag (Some p) = both (ltb (end - p.1) p.0) (λ t. rw t) (λ t. rw t)
+  field_then_lem more tag None = refl
 
   fields_next : (n at : ℕ) → at < end → fields (suc n) (part s at end) ≡ field_by (λ r. fields n r) s end (head_at s at end)
   unfolding fields head_at
@@ -108,7 +105,7 @@ module _ (s : List ℕ) (end : ℕ) (fits : end ≤ length s) where
   fields_none zero = refl
   fields_none (suc n) = refl
 
-  past_end : (at : ℕ) → end ≤ at → head_at s at end ≡ Past
+  past_end : (at : ℕ) → end ≤ at → head_at s at end ≡ None
   unfolding head_at
   past_end at h = rw (le-leb end at h)
 
@@ -155,9 +152,9 @@ module _ (s : List ℕ) where
       rw e (page_fields_lem r k)
 
   -- no TLV of a tag holds w, so the first one does not
-  abbrev Unlike : ℕ → List ℕ → Part → Type 0
-  Unlike n w (Held start stop) = equal (drop n (part s start stop)) w ≡ false
-  Unlike n w Missing = Unit {0}
+  abbrev Unlike : ℕ → List ℕ → Option Span → Type 0
+  Unlike n w (Some p) = equal (drop n (part s p.from p.end)) w ≡ false
+  Unlike n w None = Unit {0}
 
   not_holding : (t n : ℕ) (w : List ℕ) (r : Tlvs) → holding t n w (fields_of s r) ≡ false → Unlike n w (part_in t r)
   unfolding holding part_in
@@ -170,22 +167,22 @@ module _ (s : List ℕ) where
       (λ e. rw e (rw e at (neither_left (eqb tag t && x) y h)))
       (λ e. rw e (not_holding t n w rest (neither_right (eqb tag t && x) y h)))
 
-  other_id : (id : List ℕ) (p : Part) → Unlike 0 id p → hidden id (bytes_of s p) ≡ false
+  other_id : (id : List ℕ) (p : Option Span) → Unlike 0 id p → hidden id (bytes_of s p) ≡ false
   unfolding bytes_of hidden
-  other_id id (Held start stop) h = both (eqb (length (part s start stop)) 0) (λ e. rw e) (λ e. rw (e, h))
-  other_id id Missing h = refl
+  other_id id (Some p) h = both (eqb (length (part s p.from p.end)) 0) (λ e. rw e) (λ e. rw (e, h))
+  other_id id None h = refl
 
   pub uncarried : (id : List ℕ) → carries id s ≡ false → hidden id (service s) ≡ false
   unfolding carries service page_part
   uncarried id h = other_id id (part_in 0x06 (page_row s)) (not_holding 0x06 0 id (page_row s) (rw page_fields_are at h))
 
-  other_word : (w : List ℕ) (p : Part) → Unlike 1 w p → unlocks w s (after_one p) ≡ false
+  other_word : (w : List ℕ) (p : Option Span) → Unlike 1 w p → unlocks w s (after_one p) ≡ false
   unfolding unlocks after_one
-  other_word w (Held start stop) h =
-      let k : equal (part s (start + 1) stop) w ≡ false = rw (drop_part s 1 start stop) at h in
-      not_so (same w (part s (start + 1) stop))
-      (λ e. false≢true (sym (rw (sym (same_eq w (part s (start + 1) stop) e)) at k) ∙ equal_same w w ∙ same_refl w))
-  other_word w Missing h = refl
+  other_word w (Some p) h =
+      let k : equal (part s (p.from + 1) p.end) w ≡ false = rw (drop_part s 1 p.from p.end) at h in
+      not_so (same w (part s (p.from + 1) p.end))
+      (λ e. false≢true (sym (rw (sym (same_eq w (part s (p.from + 1) p.end) e)) at k) ∙ equal_same w w ∙ same_refl w))
+  other_word w None h = refl
 
   unpresented : (w : List ℕ) → presents (locked w) s ≡ false → unlocks w s (unlock s) ≡ false
   unfolding presents unlock page_part

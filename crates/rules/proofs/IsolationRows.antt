@@ -12,10 +12,11 @@ use lib.Dec.{leb}
 use Rattle.rules.specs.Bytes.{part}
 use Rattle.rules.specs.Tlv.{head_at}
 use Rattle.rules.specs.Tlvs.{Tlvs, done, past, tlv, row, tlvs_up_to, tlvs}
-use Rattle.rules.specs.declared.Head.{Head}
-use Rattle.rules.specs.declared.Head.TheVariants.{Tlv, Past}
 use Rattle.rules.proofs.Choices.{both}
 use Rattle.rules.proofs.Offsets.{head_in, tests}
+use Rattle.std.specs.Prelude.{Option, Some, None}
+use Rattle.rules.specs.declared.Tlv.{Tlv}
+use Rattle.rules.specs.Built.{some_tlv}
 
 drop_take : (n m : ℕ) (l : List ℕ) → drop n (take m l) ≡ take (m - n) (drop n l)
 drop_take zero m l = rw (sub-zero m)
@@ -57,17 +58,17 @@ module _ (s : List ℕ) where
 -- the row of the TLVs from a place on, before an end
 abbrev pub Row : List ℕ → ℕ → ℕ → Tlvs → Type 0
 Row s end at (done p) = (p ≡ at) × (end ≤ at)
-Row s end at (past p) = (p ≡ at) × (head_at s at end ≡ Past)
-Row s end at (tlv tag place start stop rest) = (place ≡ at) × (head_at s at end ≡ Tlv tag start stop) × Row s end stop rest
+Row s end at (past p) = (p ≡ at) × (head_at s at end ≡ None)
+Row s end at (tlv tag place start stop rest) = (place ≡ at) × (head_at s at end ≡ some_tlv tag start stop) × Row s end stop rest
 
-pub tlv_in : (s : List ℕ) (at end tag start stop : ℕ) → head_at s at end ≡ Tlv tag start stop → (at < start) × (start ≤ stop) × (stop ≤ end)
+pub tlv_in : (s : List ℕ) (at end tag start stop : ℕ) → head_at s at end ≡ some_tlv tag start stop → (at < start) × (start ≤ stop) × (stop ≤ end)
 tlv_in s at end tag start stop e = rw e at (head_in s at end)
 
 module _ (s : List ℕ) (end : ℕ) where
-  begins : (k : ℕ → Tlvs) (at : ℕ) → ((p : ℕ) → at < p → Row s end p (k p)) → (h : Head) → head_at s at end ≡ h → Row s end at (row k at h)
+  begins : (k : ℕ → Tlvs) (at : ℕ) → ((p : ℕ) → at < p → Row s end p (k p)) → (h : Option Tlv) → head_at s at end ≡ h → Row s end at (row k at h)
   unfolding row
-  begins k at more (Tlv tag start stop) e = let i = tlv_in s at end tag start stop e in (refl, e, more stop (omega arith))
-  begins k at more Past e = (refl, e)
+  begins k at more (Some h) e = let i = tlv_in s at end h.tag h.start h.stop e in (refl, e, more h.stop (omega arith))
+  begins k at more None e = (refl, e)
 
   up_to : (n at : ℕ) → end - at ≤ n → Row s end at (tlvs_up_to n 0 s at end)
   unfolding tlvs_up_to

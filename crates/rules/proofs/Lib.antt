@@ -1,3 +1,4 @@
+pub mod Built
 pub mod Table
 pub mod Choices
 pub mod Plans

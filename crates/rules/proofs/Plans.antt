@@ -13,8 +13,6 @@ use Rattle.rules.specs.Card.{Card, Slot, free, held}
 use Rattle.rules.specs.Store.{Written, wrote, no_room}
 use Rattle.rules.specs.Command.{Execute, allowed, command}
 use Rattle.rules.specs.Step.{Move, finish, Plan, refuses, does, runs_out, unless, storing, branch_by, branch, perform, set_variable, get_length, chosen, branch_on_slot, branch_on_value, exit, execute, ByteCode, setting_variables, going_back, branching, exiting, executing, getting_length, unknown, byte_code, plan_by, plan_for, decide, here, with_results, answer_by, answer_for}
-use Rattle.rules.specs.declared.Head.{Head}
-use Rattle.rules.specs.declared.Head.TheVariants.{Tlv, Past}
 use Rattle.rules.specs.declared.Target.{Target}
 use Rattle.rules.specs.declared.Target.TheVariants.{Unit, Lacking, Other}
 use Rattle.rules.specs.declared.Action.{Action}
@@ -24,6 +22,8 @@ use Rattle.rules.specs.declared.Choice.TheVariants.{Follow, Stay, Unknown}
 use Rattle.rules.specs.declared.Complaint.{Complaint}
 use Rattle.rules.specs.declared.Complaint.TheVariants.{Nothing, Undefined, Secured, Misused}
 use Rattle.rules.proofs.Choices.{either}
+use Rattle.std.specs.Prelude.{Option, Some, None}
+use Rattle.rules.specs.declared.Tlv.{Tlv}
 
 -- the plan does something, or refuses by a number that ends the page
 abbrev pub Ending : Plan → Type 0
@@ -90,10 +90,10 @@ code_ending c tag start stop executing = execute_ending c _
 code_ending c tag start stop getting_length = unless_ending _ _ (storing_ending _ _)
 code_ending c tag start stop unknown = refl
 
-plan_ending : (c : Card) (h : Head) → Ending (plan_for c h)
+plan_ending : (c : Card) (h : Option Tlv) → Ending (plan_for c h)
 unfolding plan_for
-plan_ending c (Tlv tag start stop) = code_ending c tag start stop (byte_code tag)
-plan_ending c Past = tt
+plan_ending c (Some h) = code_ending c h.tag h.start h.stop (byte_code h.tag)
+plan_ending c None = tt
 
 pub decide_ending : (c : Card) → Ending (decide c)
 unfolding decide
@@ -105,7 +105,7 @@ results_ending w (refuses r) h = h
 results_ending w (does c m) h = storing_ending m w
 results_ending w runs_out h = tt
 
-pub answer_ending : (c : Card) (g : ℕ) (r : List ℕ) (after h : Head) → Ending (answer_for c g r after h)
+pub answer_ending : (c : Card) (g : ℕ) (r : List ℕ) (after h : Option Tlv) → Ending (answer_for c g r after h)
 unfolding answer_for answer_by
-answer_ending c g r after (Tlv tag start stop) = results_ending _ _ (perform_ending c _ _ _)
-answer_ending c g r after Past = tt
+answer_ending c g r after (Some h) = results_ending _ _ (perform_ending c _ _ _)
+answer_ending c g r after None = tt

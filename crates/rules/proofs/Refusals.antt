@@ -16,19 +16,18 @@ use Rattle.rules.specs.Command.{reply}
 use Rattle.rules.specs.Step.{Move, onwards, jump, away, back, send, finish, Plan, refuses, does, runs_out, Effect, moved, wanting, back_to, go_back, failed, applied, decide, stepped, answer_for, answered, here}
 use Rattle.rules.specs.Calls.{Asked, create, set_environment, load, step, run_up_to, respond, end, read_variable, Answer, told, loaded, taken, ran, responded, shown, answer_number, Did, admitted, lends, ready, waiting, load_by, load_refused, step_done, step_refused, Counted, goes_on, steps, run_done, run_refused, respond_done, respond_refused, respond_by, told_refused, environment_done, act, act_in, refused_buffer, hidden}
 use Rattle.rules.specs.IsCard.{is_card}
-use Rattle.rules.specs.declared.Head.{Head}
-use Rattle.rules.specs.declared.Reply.{Reply}
-use Rattle.rules.specs.declared.Reply.TheVariants.{Result, Malformed}
 use Rattle.rules.specs.declared.Target.{Target}
 use Rattle.rules.specs.declared.Target.TheVariants.{Unit, Lacking, Other}
-use Rattle.rules.specs.declared.Judged.{Judged}
-use Rattle.rules.specs.declared.Judged.TheVariants.{Accepted, Rejected}
 use Rattle.rules.specs.declared.Refusal.{Refusal}
 use Rattle.rules.specs.declared.Refusal.TheVariants.{Buffer, Call, Response, State}
 use Rattle.rules.specs.declared.Outcome.{Outcome}
 use Rattle.rules.specs.declared.Outcome.TheVariants.{On, Command, Page, Ended, Refused}
 use Rattle.rules.proofs.Choices.{either}
 use Rattle.rules.proofs.Plans.{Ending, decide_ending, answer_ending}
+use Rattle.std.specs.Prelude.{Option, Some, None, Result, Ok, Err}
+use Rattle.rules.specs.declared.Tlv.{Tlv}
+use Rattle.rules.specs.declared.Rejection.{Rejection}
+use Rattle.rules.specs.declared.Reply.{Reply}
 
 -- what a number leaves is told apart
 is_kept : Leaves → ℕ
@@ -90,7 +89,7 @@ pub stepped_fails : (c : Card) → Fails c (stepped c)
 unfolding stepped
 stepped_fails c = applied_fails c (decide c) (decide_ending c)
 
-pub answered_fails : (c : Card) (g : ℕ) (r : List ℕ) (after : Head) → Fails c (answered c g r after)
+pub answered_fails : (c : Card) (g : ℕ) (r : List ℕ) (after : Option Tlv) → Fails c (answered c g r after)
 unfolding answered
 answered_fails c g r after = applied_fails c (answer_for c g r after (here c)) (answer_ending c g r after (here c))
 
@@ -117,10 +116,10 @@ admitted_keeps lent c fitting refuse go f g =
     (λ _. either (Keeps c) (is_card c) (λ _. either (Keeps c) fitting (λ _. g) (λ _ h. f _)) (λ _ h. f _))
     (λ _ h. f _)
 
-load_keeps : (s : List ℕ) (c : Card) (j : Judged) → Keeps c (load_by s c j)
+load_keeps : (s : List ℕ) (c : Card) (j : Result (Prim.Unit {0}) Rejection) → Keeps c (load_by s c j)
 unfolding load_by answer_number loaded_number leaves among
-load_keeps s c Accepted h = absurd (not_renewed h)
-load_keeps s c (Rejected class at) h = refl
+load_keeps s c (Ok u) h = absurd (not_renewed h)
+load_keeps s c (Err e) h = refl
 
 -- the last step of a run is one of a card
 pub steps_fails : (n k : ℕ) (c : Card) → (b : Card) × Fails b (steps n k c).last
@@ -130,10 +129,10 @@ steps_fails (suc n) k c =
     either (λ (r : Counted). (b : Card) × Fails b r.last) (goes_on (stepped c).outcome)
     (λ _. steps_fails n (k + 1) (stepped c).card) (λ _. (c, stepped_fails c))
 
-respond_keeps : (response buffer : List ℕ) (c : Card) (r : Reply) → Keeps c (respond_by response buffer c r)
+respond_keeps : (response buffer : List ℕ) (c : Card) (r : Option Reply) → Keeps c (respond_by response buffer c r)
 unfolding respond_by respond_done respond_refused answer_number
-respond_keeps response buffer c (Result g after) h = absurd (moving c _ (answered_fails c g response after) h)
-respond_keeps response buffer c Malformed h = refl
+respond_keeps response buffer c (Some a) h = absurd (moving c _ (answered_fails c a.general response a.after) h)
+respond_keeps response buffer c None h = refl
 
 environment_keeps : (n : ℕ) (value : List ℕ) (c : Card) → Keeps c (environment_done n value c)
 unfolding environment_done told_refused answer_number told_number leaves among
@@ -203,10 +202,10 @@ module _ (c : Card) where
   unfolding act Fell outcome_of step_done step_refused
   refused_step buffer = admitted_fell (lends buffer) (ready c) (step_refused buffer c) (step_done buffer c (stepped c)) (λ q. refl) (λ r e l. (stepped_fails c r e).1)
 
-  reply_fell : (response buffer : List ℕ) (a : Reply) → Fell (respond_by response buffer c a)
+  reply_fell : (response buffer : List ℕ) (a : Option Reply) → Fell (respond_by response buffer c a)
   unfolding Fell outcome_of respond_by respond_done respond_refused number leaves among
-  reply_fell response buffer (Result g after) = λ r e l. (answered_fails c g response after r e).1
-  reply_fell response buffer Malformed = kept_fell Response refl (respond_refused buffer c Response) refl
+  reply_fell response buffer (Some a) = λ r e l. (answered_fails c a.general response a.after r e).1
+  reply_fell response buffer None = kept_fell Response refl (respond_refused buffer c Response) refl
 
   -- and so does a refused response
   pub refused_response : (response buffer : List ℕ) (r : Refusal) → outcome_of (act (respond response buffer) c).answer ≡ Refused r → leaves (number r) ≡ ended → (act (respond response buffer) c).card ≡ failed r c

@@ -19,11 +19,6 @@ use Rattle.rules.specs.Step.{plan_for, here, decide, applied, stepped}
 use Rattle.rules.specs.IsCard.{guard_fine, hand_fine, wanted_fine, run_fine, is_open, is_card}
 use Rattle.rules.specs.Calls.{Asked, create, set_environment, load, step, run_up_to, respond, end, read_variable, Did, ready, waiting, admitted, lends, load_by, load_refused, step_done, step_refused, Counted, goes_on, steps, run_done, run_refused, respond_done, respond_refused, respond_by, told_refused, environment_done, act, after_all}
 use Rattle.rules.specs.Open.{opened}
-use Rattle.rules.specs.declared.Head.TheVariants.{Past}
-use Rattle.rules.specs.declared.Judged.{Judged}
-use Rattle.rules.specs.declared.Judged.TheVariants.{Accepted, Rejected}
-use Rattle.rules.specs.declared.Reply.{Reply}
-use Rattle.rules.specs.declared.Reply.TheVariants.{Result, Malformed}
 use Rattle.rules.specs.declared.Refusal.{Refusal}
 use Rattle.rules.specs.declared.Refusal.TheVariants.{Call, State, Buffer}
 use Rattle.rules.proofs.Choices.{both, either}
@@ -32,6 +27,9 @@ use Rattle.rules.proofs.StaysCardParts.{parts_of}
 use Rattle.rules.proofs.StaysCardStore.{SlotsFit, cleared_fit, environment_card}
 use Rattle.rules.proofs.StaysCardPage.{page_fine}
 use Rattle.rules.proofs.StaysCardStep.{running_card, card_running, rested_card, ends_card, stepped_card, answered_card}
+use Rattle.std.specs.Prelude.{Option, Some, None, Result, Ok, Err}
+use Rattle.rules.specs.declared.Rejection.{Rejection}
+use Rattle.rules.specs.declared.Reply.{Reply}
 
 -- a created card is a card
 pub created_card : is_card created ≡ true
@@ -56,7 +54,7 @@ unfolding runs
 runs_page c e n = false≢true (rw (no_page c.run.page n) at e)
 
 -- a step that finds no page leaves a card too
-nothing_here : (c : Card) → c.run.page ≡ [] → here c ≡ Past
+nothing_here : (c : Card) → c.run.page ≡ [] → here c ≡ None
 unfolding here code_at code_in unit_at unit_in page_row page_head row_of head_at
 nothing_here c e = rw e
 
@@ -93,7 +91,7 @@ unfolding opened_by
 opened_fit s unlocked xs h = h
 opened_fit s (locked word) xs h = either SlotsFit (unlocks word s (unlock s)) (λ _. h) (λ _. cleared_fit xs h)
 
-started_card : (s : List ℕ) (c : Card) → is_card c ≡ true → judge s ≡ Accepted → is_card (started s c) ≡ true
+started_card : (s : List ℕ) (c : Card) → is_card c ≡ true → judge s ≡ Ok tt → is_card (started s c) ≡ true
 unfolding started with_run with_wanted with_guard with_temporary is_open hand_fine
 started_card s c k j =
     let p = parts_of c k in
@@ -125,10 +123,10 @@ abbrev StillCard : Did → Type 0
 StillCard d = is_card d.card ≡ true
 
 module _ (c : Card) (k : is_card c ≡ true) where
-  load_by_card : (s : List ℕ) (j : Judged) → judge s ≡ j → is_card (load_by s c j).card ≡ true
+  load_by_card : (s : List ℕ) (j : Result (Unit {0}) Rejection) → judge s ≡ j → is_card (load_by s c j).card ≡ true
   unfolding load_by
-  load_by_card s Accepted e = started_card s c k e
-  load_by_card s (Rejected class at) e = k
+  load_by_card s (Ok u) e = started_card s c k e
+  load_by_card s (Err q) e = k
 
   environment_done_card : c.run.page ≡ [] → (n : ℕ) (v : List ℕ) → is_card (environment_done n v c).card ≡ true
   unfolding environment_done told_refused
@@ -137,10 +135,10 @@ module _ (c : Card) (k : is_card c ≡ true) where
       (λ _. either StillCard (eqb n 5) (λ _. k)
       (λ _. either StillCard (ltb longest (length v)) (λ _. k) (λ t. environment_card c n v k e (ltb-false longest (length v) t))))
 
-  respond_by_card : runs c ≡ true → is_empty c.run.hand ≡ false → (response buffer : List ℕ) (r : Reply) → is_card (respond_by response buffer c r).card ≡ true
+  respond_by_card : runs c ≡ true → is_empty c.run.hand ≡ false → (response buffer : List ℕ) (r : Option Reply) → is_card (respond_by response buffer c r).card ≡ true
   unfolding respond_by respond_done respond_refused
-  respond_by_card t n response buffer (Result g after) = let r = card_running c k (runs_page c t) in answered_card c r.0 r.1 n g response after
-  respond_by_card t n response buffer Malformed = k
+  respond_by_card t n response buffer (Some a) = let r = card_running c k (runs_page c t) in answered_card c r.0 r.1 n a.general response a.after
+  respond_by_card t n response buffer None = k
 
   admitted_card : (lent fitting : Bool) (refuse : Refusal → Did) (go : Did) → ((r : Refusal) → StillCard (refuse r)) → (fitting ≡ true → StillCard go) → StillCard (admitted lent c fitting refuse go)
   unfolding admitted

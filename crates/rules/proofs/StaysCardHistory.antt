@@ -18,15 +18,13 @@ use Rattle.rules.specs.Bytes.{among}
 use Rattle.rules.specs.Card.{History}
 use Rattle.rules.specs.Trail.{depth, pushed, topped, recorded, left, last, lowered}
 use Rattle.rules.specs.IsCard.{within, entry_by, entries_fine, history_fine, wanted_fine}
-use Rattle.rules.specs.declared.Spot.{Spot}
-use Rattle.rules.specs.declared.Spot.TheVariants.{After, Cut}
-use Rattle.rules.specs.declared.Part.{Part}
-use Rattle.rules.specs.declared.Part.TheVariants.{Held, Missing}
 use Rattle.rules.proofs.Choices.{both, either}
 use Rattle.rules.proofs.Offsets.{tests}
 use Rattle.rules.proofs.BlankTests.{first, second, pass}
 use Rattle.rules.proofs.IsolationRows.{length_part}
 use Rattle.rules.proofs.StaysCardPage.{PartFine, in_size, PageFine}
+use Rattle.std.specs.Prelude.{Option, Some, None}
+use Rattle.rules.specs.declared.Span.{Span}
 
 -- between two bounds
 pub between : (least most n : ℕ) → least ≤ n → n ≤ most → within least most n ≡ true
@@ -44,22 +42,22 @@ may_want [] e = refl
 may_want (x ∷ xs) e = e
 
 -- the last '23' of a reference is the one before its anchor
-unmarked_cut : (p : Spot) → is_marked p ≡ false → p ≡ Cut
+unmarked_cut : (p : Option ℕ) → is_marked p ≡ false → p ≡ None
 unfolding is_marked
-unmarked_cut (After n) e = absurd (true≢false e)
-unmarked_cut Cut e = refl
+unmarked_cut (Some n) e = absurd (true≢false e)
+unmarked_cut None e = refl
 
-seam_mark : (p a : List ℕ) (j : ℕ) → mark_in j a ≡ Cut → mark_in (suc (length p) + j) (p ++ 0x23 ∷ a) ≡ After (length p)
+seam_mark : (p a : List ℕ) (j : ℕ) → mark_in j a ≡ None → mark_in (suc (length p) + j) (p ++ 0x23 ∷ a) ≡ Some (length p)
 unfolding mark_in
 seam_mark p a zero e = rw (add-zero (suc (length p)), get_or-append_seam p 0x23 a 0)
 seam_mark p a (suc j) e =
     let g : get_or (p ++ 0x23 ∷ a) (suc (length p) + j) 0 ≡ get_or a j 0 =
     let q : suc (length p) + j ≡ length p + suc j = omega arith in rw q (get_or-append-add p (0x23 ∷ a) (suc j) 0) in
     both (eqb (get_or a j 0) 0x23)
-    (λ t. let k : After j ≡ Cut = rw t at e in let z : ◌≡◌ {A = ℕ} 0 1 = cc in absurd (omega arith))
+    (λ t. let k : Some j ≡ None = rw t at e in let z : ◌≡◌ {A = ℕ} 0 1 = cc in absurd (omega arith))
     (λ t. rw (add-suc (suc (length p)) j, g, t) (seam_mark p a j (rw t at e)))
 
-reference_mark : (p a : List ℕ) → is_marked (mark a) ≡ false → mark (reference p a) ≡ After (length p)
+reference_mark : (p a : List ℕ) → is_marked (mark a) ≡ false → mark (reference p a) ≡ Some (length p)
 unfolding mark reference
 reference_mark p a e =
     let l : length (p ++ 0x23 ∷ a) ≡ suc (length p) + length a = rw (length-append p (0x23 ∷ a)) (omega arith) in
@@ -73,13 +71,13 @@ reference_fine p a h k e =
     rw (reference_mark p a e) (pass (between 1 32 (length p) h.0 h.1) (between 1 32 (length (reference p a) - (length p + 1)) (omega arith) (omega arith)))
 
 -- an entry may be wanted
-entry_size : (size : ℕ) (p : Spot) → entry_by size p ≡ true → within 2 65 size ≡ true
+entry_size : (size : ℕ) (p : Option ℕ) → entry_by size p ≡ true → within 2 65 size ≡ true
 unfolding entry_by
-entry_size size (After n) e =
+entry_size size (Some n) e =
     let i = bounds 1 32 n (first (within 1 32 n) _ e) in
     let j = bounds 1 32 (size - (n + 1)) (second (within 1 32 n) _ e) in
     between 2 65 size (omega arith) (omega arith)
-entry_size size Cut e = absurd (false≢true e)
+entry_size size None e = absurd (false≢true e)
 
 -- entries that are taken, dropped, added
 entries_take : (n : ℕ) (es : List (List ℕ)) → entries_fine es ≡ true → entries_fine (take n es) ≡ true
@@ -135,10 +133,10 @@ pushed_fit es e l h k =
     (λ t. rw t (topped_fit (drop 1 es ++ e ∷ []) (rw (length-append (drop 1 es) (e ∷ []), length-drop 1 es) (omega tests)) (entries_add (drop 1 es) e (entries_drop es h) k)))
 
 -- the unit that a branch leaves
-anchor_size : (s : List ℕ) (p : Part) → is_held p ≡ true → PartFine s 0x0B p → ((1 ≤ length (bytes_of s p)) × (length (bytes_of s p) ≤ 32)) × (is_marked (mark (bytes_of s p)) ≡ false)
+anchor_size : (s : List ℕ) (p : Option Span) → is_held p ≡ true → PartFine s 0x0B p → ((1 ≤ length (bytes_of s p)) × (length (bytes_of s p) ≤ 32)) × (is_marked (mark (bytes_of s p)) ≡ false)
 unfolding is_held bytes_of size_of sizes number_in among
-anchor_size s (Held start stop) e h = (rw (length_part s start stop h.1) (in_size 96 (stop - start) refl h.0), h.2 refl)
-anchor_size s Missing e h = absurd (false≢true e)
+anchor_size s (Some p) e h = (rw (length_part s p.from p.end h.1) (in_size 96 (p.end - p.from) refl h.0), h.2 refl)
+anchor_size s None e h = absurd (false≢true e)
 
 pub left_fit : (s : List ℕ) (k : ℕ) (h : History) → PageFine s → HistoryFit h → HistoryFit (left s k h)
 unfolding left recorded

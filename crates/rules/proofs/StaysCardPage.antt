@@ -20,45 +20,43 @@ use Rattle.rules.specs.Forms.{bad_anchor, is_marked, sizes, size_of, out_of_size
 use Rattle.rules.specs.Keep.{guard_by}
 use Rattle.rules.specs.IsCard.{guard_fine}
 use Rattle.rules.specs.Loader.{walk, after, class_fault, classes, or_rejected, judge_by, judge_head, judge}
-use Rattle.rules.specs.declared.Head.{Head}
-use Rattle.rules.specs.declared.Head.TheVariants.{Tlv, Past}
-use Rattle.rules.specs.declared.Part.{Part}
-use Rattle.rules.specs.declared.Part.TheVariants.{Held, Missing}
-use Rattle.rules.specs.declared.Found.{Found}
-use Rattle.rules.specs.declared.Found.TheVariants.{Fine, At}
-use Rattle.rules.specs.declared.Judged.{Judged}
-use Rattle.rules.specs.declared.Judged.TheVariants.{Accepted, Rejected}
+use Rattle.rules.proofs.Built.{same_tlv}
 use Rattle.rules.proofs.Choices.{both}
 use Rattle.rules.proofs.Offsets.{tests}
 use Rattle.rules.proofs.IsolationRows.{length_part, Row, tlv_in, row_of_lem}
 use Rattle.rules.proofs.StaysCardWalk.{not_fine, then_fine, Walked, Sound, Proper, walked_row, sound_tlv, never_past}
 use Rattle.rules.proofs.StaysCardTags.{every, tags_of, shaped_as, its_place, known_tag, enter, first_proper}
+use Rattle.std.specs.Prelude.{Option, Some, None, Result, Ok}
+use Rattle.rules.specs.declared.Tlv.{Tlv}
+use Rattle.rules.specs.declared.Span.{Span}
+use Rattle.rules.specs.declared.Rejection.{Rejection}
+use Rattle.rules.specs.Built.{some_tlv, reject}
 
 -- the whole page is one Page TLV, in which no class found a fault
 record Whole (s : List ℕ) : Type 0 where
   tag : ℕ
   start : ℕ
-  head : page_head s ≡ Tlv tag start (length s)
+  head : page_head s ≡ some_tlv tag start (length s)
   walked : Walked s 8 whole_kind 0 0 (length s)
 
-not_accepted : (class at : ℕ) → Rejected class at ≡ Accepted → ⊥
+not_accepted : (class at : ℕ) → reject class at ≡ Ok tt → ⊥
 not_accepted class at e = let z : ◌≡◌ {A = ℕ} 0 1 = cc in omega arith
 
-or_accepted : (class : ℕ) (rest : Judged) (f : Found) → or_rejected class rest f ≡ Accepted → (f ≡ Fine) × (rest ≡ Accepted)
+or_accepted : (class : ℕ) (rest : Result (Unit {0}) Rejection) (f : Option ℕ) → or_rejected class rest f ≡ Ok tt → (f ≡ None) × (rest ≡ Ok tt)
 unfolding or_rejected
-or_accepted class rest Fine e = (refl, e)
-or_accepted class rest (At p) e = absurd (not_accepted class p e)
+or_accepted class rest None e = (refl, e)
+or_accepted class rest (Some p) e = absurd (not_accepted class p e)
 
 module _ (s : List ℕ) where
-  class_fine : (class stop : ℕ) → class_fault s class stop ≡ Fine → (walk 8 s class whole_kind 0 0 stop ≡ Fine) × (after s class stop ≡ Fine)
+  class_fine : (class stop : ℕ) → class_fault s class stop ≡ None → (walk 8 s class whole_kind 0 0 stop ≡ None) × (after s class stop ≡ None)
   unfolding class_fault
   class_fine class stop e = then_fine (walk 8 s class whole_kind 0 0 stop) (after s class stop) e
 
-  nothing_after : (stop : ℕ) → after s 2 stop ≡ Fine → length s ≤ stop
+  nothing_after : (stop : ℕ) → after s 2 stop ≡ None → length s ≤ stop
   unfolding after
   nothing_after stop e = both (ltb stop (length s)) (λ t. absurd (not_fine stop (rw t at e))) (λ t. omega tests)
 
-  by_classes : (tag start stop : ℕ) → page_head s ≡ Tlv tag start stop → judge_by s classes stop ≡ Accepted → Whole s
+  by_classes : (tag start stop : ℕ) → page_head s ≡ some_tlv tag start stop → judge_by s classes stop ≡ Ok tt → Whole s
   unfolding judge_by classes page_head
   by_classes tag start stop h e =
       let j2 = or_accepted 2 _ (class_fault s 2 stop) e in
@@ -80,12 +78,12 @@ module _ (s : List ℕ) where
       } in
       record { tag = tag; start = start; head = rw q at h; walked = rw q at w }
 
-  by_head : (h : Head) → page_head s ≡ h → judge_head s h ≡ Accepted → Whole s
+  by_head : (h : Option Tlv) → page_head s ≡ h → judge_head s h ≡ Ok tt → Whole s
   unfolding judge_head
-  by_head (Tlv tag start stop) q e = by_classes tag start stop q e
-  by_head Past q e = absurd (not_accepted 2 0 e)
+  by_head (Some h) q e = by_classes h.tag h.start h.stop q e
+  by_head None q e = absurd (not_accepted 2 0 e)
 
-  whole : judge s ≡ Accepted → Whole s
+  whole : judge s ≡ Ok tt → Whole s
   unfolding judge
   whole e =
       both (eqb (length s) 0) (λ t. absurd (not_accepted 1 0 (rw t at e)))
@@ -98,7 +96,7 @@ pub record PageSound (s : List ℕ) : Type 0 where
   pub sound : Sound s 6 page_kind from 0 (page_row s)
   pub complete : lacks page_kind (length s) (page_row s) ≡ false
 
-pub page_sound : (s : List ℕ) → judge s ≡ Accepted → PageSound s
+pub page_sound : (s : List ℕ) → judge s ≡ Ok tt → PageSound s
 unfolding page_row row_of page_head gap_of every tags_of grammar shaped_as plain shape_of shapes number_in follows_of kind_of fixed_of among
 page_sound s e =
     let w = whole s e in
@@ -115,9 +113,9 @@ page_sound s e =
     }
 
 -- a part of a row is of its size, and an anchor has no '23'
-abbrev pub PartFine : List ℕ → ℕ → Part → Type 0
-PartFine s t (Held start stop) = (out_of_size (size_of t) (stop - start) ≡ false) × (stop ≤ length s) × (t ≡ 0x0B → is_marked (mark (part s start stop)) ≡ false)
-PartFine s t Missing = Unit {0}
+abbrev pub PartFine : List ℕ → ℕ → Option Span → Type 0
+PartFine s t (Some p) = (out_of_size (size_of t) (p.end - p.from) ≡ false) × (p.end ≤ length s) × (t ≡ 0x0B → is_marked (mark (part s p.from p.end)) ≡ false)
+PartFine s t None = Unit {0}
 
 module _ (s : List ℕ) where
   its_size : (left within from last tag at start stop : ℕ) → Proper s left within from last tag at start stop → out_of_size (size_of tag) (stop - start) ≡ false
@@ -191,9 +189,9 @@ pub record UnitSound (s : List ℕ) (tag start stop : ℕ) : Type 0 where
   pub sound : Sound s 5 unit_kind (content_at s tag start stop) 0 (tlvs 0 s (content_at s tag start stop) stop)
   pub fits : stop ≤ length s
 
-abbrev pub UnitFine : List ℕ → Head → Type 0
-UnitFine s (Tlv tag start stop) = UnitSound s tag start stop
-UnitFine s Past = Unit {0}
+abbrev pub UnitFine : List ℕ → Option Tlv → Type 0
+UnitFine s (Some h) = UnitSound s h.tag h.start h.stop
+UnitFine s None = Unit {0}
 
 module _ (s : List ℕ) where
   units_fine : (k end from last at : ℕ) (r : Tlvs) → end ≤ length s → Row s end at r → Sound s 6 page_kind from last r → UnitFine s (unit_in k r)
@@ -248,7 +246,7 @@ module _ (s : List ℕ) where
   in_rest b tag p start stop rest e = both (is_code tag) (λ q. both (eqb b p) (λ u. rw (q, u)) (λ u. rw (q, u) e)) (λ q. rw q e)
 
   -- the byte code at a place
-  code_proper : (end left from last at place t a b : ℕ) (r : Tlvs) → Row s end at r → Sound s left unit_kind from last r → is_place_in place r ≡ true → head_at s place end ≡ Tlv t a b →
+  code_proper : (end left from last at place t a b : ℕ) (r : Tlvs) → Row s end at r → Sound s left unit_kind from last r → is_place_in place r ≡ true → head_at s place end ≡ some_tlv t a b →
       (from' last' : ℕ) × Proper s left unit_kind from' last' t place a b
   unfolding is_place_in
   code_proper end left from last at place t a b (done p) k h e q =
@@ -264,14 +262,13 @@ module _ (s : List ℕ) where
       (λ u. both (eqb place p)
       (λ v.
       let z = eqb-true place p v in
-      let y1 : tag ≡ t = cc in
-      let y2 : start ≡ a = cc in
-      let y3 : stop ≡ b = cc in
-      (from, last, rw (sym z, y1, y2, y3) at i.0))
+      let same : some_tlv tag start stop ≡ some_tlv t a b = cc in
+      let y = same_tlv same in
+      (from, last, rw (sym z, y.0, y.1, y.2) at i.0))
       (λ v. onward (rw (u, v) at e)))
       (λ u. onward (rw u at e))
 
-  next_place : (end left from last at place t a b : ℕ) (r : Tlvs) → Row s end at r → Sound s left unit_kind from last r → is_place_in place r ≡ true → head_at s place end ≡ Tlv t a b → is_place_in b r ≡ true
+  next_place : (end left from last at place t a b : ℕ) (r : Tlvs) → Row s end at r → Sound s left unit_kind from last r → is_place_in place r ≡ true → head_at s place end ≡ some_tlv t a b → is_place_in b r ≡ true
   unfolding is_place_in every tags_of grammar cell_of cell_in among is_code plain
   next_place end left from last at place t a b (done p) k h e q =
       let i = tlv_in s place end t a b q in
@@ -286,9 +283,10 @@ module _ (s : List ℕ) where
       (λ u. both (eqb place p)
       (λ v.
       let z = eqb-true place p v in
-      let y : b ≡ stop = cc in
+      let same : some_tlv t a b ≡ some_tlv tag start stop = cc in
+      let y = same_tlv same in
       let f = known_tag s left unit_kind from last tag p start stop i.0 (λ t. cond (is_code t) (leb 51 (cell_of unit_kind t)) true) refl in
-      rw y (start_place end left from (cell_of unit_kind tag) stop rest (leb-true 51 (cell_of unit_kind tag) (rw u at f)) k.2 i.1))
+      rw y.2 (start_place end left from (cell_of unit_kind tag) stop rest (leb-true 51 (cell_of unit_kind tag) (rw u at f)) k.2 i.1))
       (λ v. onward (rw (u, v) at e)))
       (λ u. onward (rw u at e)))
 
@@ -307,57 +305,57 @@ pub record PageFine (s : List ℕ) : Type 0 where
   pub unit : (k : ℕ) → UnitFine s (unit_at s k)
   pub anchored : (k : ℕ) → PartFine s 0x0B (anchor s k)
   pub entry : (k : ℕ) → is_place s k (entry_of s k) ≡ true
-  pub next : (k place tag start stop : ℕ) → is_place s k place ≡ true → code_at s k place ≡ Tlv tag start stop → is_place s k stop ≡ true
-  pub code : (k place tag start stop : ℕ) → is_place s k place ≡ true → code_at s k place ≡ Tlv tag start stop →
+  pub next : (k place tag start stop : ℕ) → is_place s k place ≡ true → code_at s k place ≡ some_tlv tag start stop → is_place s k stop ≡ true
+  pub code : (k place tag start stop : ℕ) → is_place s k place ≡ true → code_at s k place ≡ some_tlv tag start stop →
       (from last : ℕ) × Proper s 5 unit_kind from last tag place start stop × (stop ≤ length s)
 
 module _ (s : List ℕ) where
-  name_size : (p : Part) → is_held p ≡ true → PartFine s 0x02 p → (1 ≤ length (bytes_of s p)) × (length (bytes_of s p) ≤ 32)
+  name_size : (p : Option Span) → is_held p ≡ true → PartFine s 0x02 p → (1 ≤ length (bytes_of s p)) × (length (bytes_of s p) ≤ 32)
   unfolding is_held bytes_of size_of sizes number_in among
-  name_size (Held start stop) e h = rw (length_part s start stop h.1) (in_size 96 (stop - start) refl h.0)
-  name_size Missing e h = absurd (false≢true e)
+  name_size (Some p) e h = rw (length_part s p.from p.end h.1) (in_size 96 (p.end - p.from) refl h.0)
+  name_size None e h = absurd (false≢true e)
 
-  service_size : (p : Part) → PartFine s 0x06 p → length (bytes_of s p) ≤ 16
+  service_size : (p : Option Span) → PartFine s 0x06 p → length (bytes_of s p) ≤ 16
   unfolding bytes_of size_of sizes number_in among
-  service_size (Held start stop) h = rw (length_part s start stop h.1) (in_size 80 (stop - start) refl h.0).1
-  service_size Missing h = omega arith
+  service_size (Some p) h = rw (length_part s p.from p.end h.1) (in_size 80 (p.end - p.from) refl h.0).1
+  service_size None h = omega arith
 
-  guard_size : (p : Part) → PartFine s 0x04 p → guard_fine (guard_by s p) ≡ true
+  guard_size : (p : Option Span) → PartFine s 0x04 p → guard_fine (guard_by s p) ≡ true
   unfolding guard_by guard_fine size_of sizes number_in among
-  guard_size (Held start stop) h = rw (length_part s start stop h.1) (le-leb (stop - start) 16 (in_size 16 (stop - start) refl h.0).1)
-  guard_size Missing h = refl
+  guard_size (Some p) h = rw (length_part s p.from p.end h.1) (le-leb (p.end - p.from) 16 (in_size 16 (p.end - p.from) refl h.0).1)
+  guard_size None h = refl
 
-  unit_anchor : (h : Head) → UnitFine s h → PartFine s 0x0B (anchor_in s h)
+  unit_anchor : (h : Option Tlv) → UnitFine s h → PartFine s 0x0B (anchor_in s h)
   unfolding anchor_in row_of part_in
-  unit_anchor (Tlv tag start stop) u =
-      part_fine s 0x0B stop 5 unit_kind (content_at s tag start stop) 0 (content_at s tag start stop) (tlvs 0 s (content_at s tag start stop) stop)
-      u.fits (row_of_lem s stop (content_at s tag start stop)) u.sound
-  unit_anchor Past u = tt
+  unit_anchor (Some h) u =
+      part_fine s 0x0B h.stop 5 unit_kind (content_at s h.tag h.start h.stop) 0 (content_at s h.tag h.start h.stop) (tlvs 0 s (content_at s h.tag h.start h.stop) h.stop)
+      u.fits (row_of_lem s h.stop (content_at s h.tag h.start h.stop)) u.sound
+  unit_anchor None u = tt
 
-  unit_entry : (h : Head) → UnitFine s h → is_place_in (entry_in (row_of s h)) (row_of s h) ≡ true
+  unit_entry : (h : Option Tlv) → UnitFine s h → is_place_in (entry_in (row_of s h)) (row_of s h) ≡ true
   unfolding row_of entry_in is_place_in
-  unit_entry (Tlv tag start stop) u = entry_place s 5 (content_at s tag start stop) 0 (tlvs 0 s (content_at s tag start stop) stop) u.sound
-  unit_entry Past u = refl
+  unit_entry (Some h) u = entry_place s 5 (content_at s h.tag h.start h.stop) 0 (tlvs 0 s (content_at s h.tag h.start h.stop) h.stop) u.sound
+  unit_entry None u = refl
 
-  unit_next : (h : Head) → UnitFine s h → (place t a b : ℕ) → is_place_in place (row_of s h) ≡ true → code_in s place h ≡ Tlv t a b → is_place_in b (row_of s h) ≡ true
+  unit_next : (h : Option Tlv) → UnitFine s h → (place t a b : ℕ) → is_place_in place (row_of s h) ≡ true → code_in s place h ≡ some_tlv t a b → is_place_in b (row_of s h) ≡ true
   unfolding row_of code_in
-  unit_next (Tlv tag start stop) u place t a b e q =
-      next_place s stop 5 (content_at s tag start stop) 0 (content_at s tag start stop) place t a b (tlvs 0 s (content_at s tag start stop) stop)
-      (row_of_lem s stop (content_at s tag start stop)) u.sound e q
-  unit_next Past u place t a b e q = let z : ◌≡◌ {A = ℕ} 0 1 = cc in absurd (omega arith)
+  unit_next (Some h) u place t a b e q =
+      next_place s h.stop 5 (content_at s h.tag h.start h.stop) 0 (content_at s h.tag h.start h.stop) place t a b (tlvs 0 s (content_at s h.tag h.start h.stop) h.stop)
+      (row_of_lem s h.stop (content_at s h.tag h.start h.stop)) u.sound e q
+  unit_next None u place t a b e q = let z : ◌≡◌ {A = ℕ} 0 1 = cc in absurd (omega arith)
 
-  unit_code : (h : Head) → UnitFine s h → (place t a b : ℕ) → is_place_in place (row_of s h) ≡ true → code_in s place h ≡ Tlv t a b →
+  unit_code : (h : Option Tlv) → UnitFine s h → (place t a b : ℕ) → is_place_in place (row_of s h) ≡ true → code_in s place h ≡ some_tlv t a b →
       (from last : ℕ) × Proper s 5 unit_kind from last t place a b × (b ≤ length s)
   unfolding row_of code_in
-  unit_code (Tlv tag start stop) u place t a b e q =
-      let p = code_proper s stop 5 (content_at s tag start stop) 0 (content_at s tag start stop) place t a b (tlvs 0 s (content_at s tag start stop) stop)
-      (row_of_lem s stop (content_at s tag start stop)) u.sound e q in
-      let i = tlv_in s place stop t a b q in
+  unit_code (Some h) u place t a b e q =
+      let p = code_proper s h.stop 5 (content_at s h.tag h.start h.stop) 0 (content_at s h.tag h.start h.stop) place t a b (tlvs 0 s (content_at s h.tag h.start h.stop) h.stop)
+      (row_of_lem s h.stop (content_at s h.tag h.start h.stop)) u.sound e q in
+      let i = tlv_in s place h.stop t a b q in
       let l = u.fits in
       (p.0, p.1, p.2, omega arith)
-  unit_code Past u place t a b e q = let z : ◌≡◌ {A = ℕ} 0 1 = cc in absurd (omega arith)
+  unit_code None u place t a b e q = let z : ◌≡◌ {A = ℕ} 0 1 = cc in absurd (omega arith)
 
-  pub page_fine : judge s ≡ Accepted → PageFine s
+  pub page_fine : judge s ≡ Ok tt → PageFine s
   unfolding identification service password page_part unit_count count unit_at anchor is_place entry_of unit_row code_at
   page_fine e =
       let w = page_sound s e in

@@ -23,11 +23,6 @@ use Rattle.rules.specs.Card.{Card}
 use Rattle.rules.specs.Value.{complaint, joined}
 use Rattle.rules.specs.Step.{case_value, follow, follow_in, is_undefined, case_choice, choose}
 use Rattle.rules.specs.IsCard.{within}
-use Rattle.rules.specs.declared.Head.{Head}
-use Rattle.rules.specs.declared.Head.TheVariants.{Tlv, Past}
-use Rattle.rules.specs.declared.Spot.{Spot}
-use Rattle.rules.specs.declared.Spot.TheVariants.{After, Cut}
-use Rattle.rules.specs.declared.Judged.TheVariants.{Accepted}
 use Rattle.rules.specs.declared.Action.{Action}
 use Rattle.rules.specs.declared.Action.TheVariants.{Pass, Next, Quit, Back, Retry, Go}
 use Rattle.rules.specs.declared.Choice.{Choice}
@@ -39,13 +34,16 @@ use Rattle.rules.proofs.IsolationRows.{length_part, Row, tlv_in, row_of_lem}
 use Rattle.rules.proofs.StaysCardWalk.{Walked, Sound, Proper, walked_row, sound_tlv}
 use Rattle.rules.proofs.StaysCardPage.{page_sound, UnitFine, page_fine}
 use Rattle.rules.proofs.StaysCardTags.{every, tags_of, shaped_as, its_place, known_tag, inner_of, enter, shaped, first_proper}
+use Rattle.std.specs.Prelude.{Option, Some, None, Ok}
+use Rattle.rules.specs.declared.Tlv.{Tlv}
+use Rattle.rules.specs.Built.{some_tlv}
 
-pub mark_in_lem : (n m : ℕ) (r : List ℕ) → mark_in n r ≡ After m → m < n
+pub mark_in_lem : (n m : ℕ) (r : List ℕ) → mark_in n r ≡ Some m → m < n
 unfolding mark_in
 mark_in_lem zero m r e = let z : ◌≡◌ {A = ℕ} 0 1 = cc in absurd (omega arith)
 mark_in_lem (suc n) m r e =
     both (eqb (get_or r n 0) 0x23)
-    (λ t. let k : After n ≡ After m = rw t at e in let q : n ≡ m = cc in omega arith)
+    (λ t. let k : Some n ≡ Some m = rw t at e in let q : n ≡ m = cc in omega arith)
     (λ t. let k = mark_in_lem n m r (rw t at e) in omega arith)
 
 -- a reference that may be followed
@@ -53,16 +51,16 @@ abbrev pub Ref : List ℕ → ℕ → ℕ → Type 0
 Ref s start stop = within 2 65 (length (part s start stop)) ≡ true
 
 module _ (s : List ℕ) where
-  ref_size : (start stop : ℕ) → stop ≤ length s → (p : Spot) → mark (part s start stop) ≡ p → bad_reference (stop - start) p ≡ false → long_reference (stop - start) p ≡ false → Ref s start stop
+  ref_size : (start stop : ℕ) → stop ≤ length s → (p : Option ℕ) → mark (part s start stop) ≡ p → bad_reference (stop - start) p ≡ false → long_reference (stop - start) p ≡ false → Ref s start stop
   unfolding mark bad_reference long_reference within
-  ref_size start stop l (After n) e b g =
+  ref_size start stop l (Some n) e b g =
       let k = mark_in_lem (length (part s start stop)) n (part s start stop) e in
       let q = length_part s start stop l in
       let z = eqb-false (stop - start) 1 b in
       both (ltb 32 n) (λ t. absurd (true≢false (rw t at g)))
       (λ t. let y = ltb-false 32 (stop - start - (n + 1)) (rw t at g) in
       rw q (pass (le-leb 2 (stop - start) (omega tests)) (le-leb (stop - start) 65 (omega tests))))
-  ref_size start stop l Cut e b g = absurd (true≢false b)
+  ref_size start stop l None e b g = absurd (true≢false b)
 
   ref_fine : (left within from last at start stop : ℕ) → Proper s left within from last 0x0C at start stop → stop ≤ length s → Ref s start stop
   unfolding out_of_place too_big size_of sizes number_in among out_of_size
@@ -72,17 +70,17 @@ module _ (s : List ℕ) where
       h.sized
 
   -- the first TLV of a container, where it is an anchor reference
-  abbrev HeadRef : Head → Type 0
-  HeadRef (Tlv tag start stop) = eqb tag 0x0C ≡ true → Ref s start stop
-  HeadRef Past = Unit {0}
+  abbrev HeadRef : Option Tlv → Type 0
+  HeadRef (Some h) = eqb h.tag 0x0C ≡ true → Ref s h.start h.stop
+  HeadRef None = Unit {0}
 
-  head_ref : (left within from end : ℕ) → end ≤ length s → Sound s left within from 0 (tlvs 0 s from end) → (h : Head) → head_at s from end ≡ h → HeadRef h
-  head_ref left within from end l k (Tlv tag start stop) e =
+  head_ref : (left within from end : ℕ) → end ≤ length s → Sound s left within from 0 (tlvs 0 s from end) → (h : Option Tlv) → head_at s from end ≡ h → HeadRef h
+  head_ref left within from end l k (Some h) e =
       λ t.
-      let i = first_proper s end left within from 0 from tag start stop (tlvs 0 s from end) (row_of_lem s end from) k e in
-      let j = tlv_in s from end tag start stop e in
-      ref_fine left within from 0 from start stop (rw (eqb-true tag 0x0C t) at i.0) (omega arith)
-  head_ref left within from end l k Past e = tt
+      let i = first_proper s end left within from 0 from h.tag h.start h.stop (tlvs 0 s from end) (row_of_lem s end from) k e in
+      let j = tlv_in s from end h.tag h.start h.stop e in
+      ref_fine left within from 0 from h.start h.stop (rw (eqb-true h.tag 0x0C t) at i.0) (omega arith)
+  head_ref left within from end l k None e = tt
 
   -- what a page reference holds
   reference_in : (left within from last at start stop : ℕ) → eqb within command_kind ≡ false → Proper s (suc left) within from last 0x12 at start stop →
@@ -101,22 +99,22 @@ module _ (s : List ℕ) where
   GoRef Retry = Unit {0}
   GoRef (Go start stop) = Ref s start stop
 
-  go_to_ref : (h : Head) → HeadRef h → GoRef (go_to h)
+  go_to_ref : (h : Option Tlv) → HeadRef h → GoRef (go_to h)
   unfolding go_to
-  go_to_ref (Tlv tag start stop) k = both (eqb tag 0x0C) (λ t. rw t (k t)) (λ t. rw t tt)
-  go_to_ref Past k = tt
+  go_to_ref (Some h) k = both (eqb h.tag 0x0C) (λ t. rw t (k t)) (λ t. rw t tt)
+  go_to_ref None k = tt
 
   branch_by_ref : (left within from end : ℕ) → eqb within command_kind ≡ false → end ≤ length s → Sound s (suc left) within from 0 (tlvs 0 s from end) →
-      (h : Head) → head_at s from end ≡ h → GoRef (branch_by s h)
+      (h : Option Tlv) → head_at s from end ≡ h → GoRef (branch_by s h)
   unfolding branch_by
-  branch_by_ref left within from end c l k (Tlv tag start stop) e =
-      let i = first_proper s end (suc left) within from 0 from tag start stop (tlvs 0 s from end) (row_of_lem s end from) k e in
-      let j = tlv_in s from end tag start stop e in
-      both (eqb tag 0x12)
-      (λ t. rw t (go_to_ref (head_at s start stop)
-      (head_ref left reference_kind start stop (omega arith) (reference_in left within from 0 from start stop c (rw (eqb-true tag 0x12 t) at i.0)) (head_at s start stop) refl)))
-      (λ t. rw t (go_to_ref (Tlv tag start stop) (head_ref (suc left) within from end l k (Tlv tag start stop) e)))
-  branch_by_ref left within from end c l k Past e = tt
+  branch_by_ref left within from end c l k (Some h) e =
+      let i = first_proper s end (suc left) within from 0 from h.tag h.start h.stop (tlvs 0 s from end) (row_of_lem s end from) k e in
+      let j = tlv_in s from end h.tag h.start h.stop e in
+      both (eqb h.tag 0x12)
+      (λ t. rw t (go_to_ref (head_at s h.start h.stop)
+      (head_ref left reference_kind h.start h.stop (omega arith) (reference_in left within from 0 from h.start h.stop c (rw (eqb-true h.tag 0x12 t) at i.0)) (head_at s h.start h.stop) refl)))
+      (λ t. rw t (go_to_ref (some_tlv h.tag h.start h.stop) (head_ref (suc left) within from end l k (some_tlv h.tag h.start h.stop) e)))
+  branch_by_ref left within from end c l k None e = tt
 
   -- an action with an ID below '20' is a system action, which leads nowhere else
   action_kind_lem : (at stop : ℕ) → (eqb (kind_at s action_kind at stop) command_kind ≡ false) × (gap_of (kind_at s action_kind at stop) ≡ 0)
@@ -184,14 +182,14 @@ module _ (s : List ℕ) where
   unfolding default
   default_ref g = either GoRef (ltb g 0x10) {a = Next} (λ _. tt) (λ _. either GoRef (eqb g 0x11) {a = Back} (λ _. tt) (λ _. either GoRef (eqb g 0x13) {a = Retry} {b = Quit} (λ _. tt) (λ _. tt)))
 
-  unit_ref : (g : ℕ) (h : Head) → UnitFine s h → GoRef (last_in s g (row_of s h))
+  unit_ref : (g : ℕ) (h : Option Tlv) → UnitFine s h → GoRef (last_in s g (row_of s h))
   unfolding row_of last_in every tags_of grammar shaped_as plain shape_of shapes number_in follows_of kind_of fixed_of among
-  unit_ref g (Tlv tag start stop) u =
-      last_in_ref g 2 unit_kind (content_at s tag start stop) 0 stop (content_at s tag start stop) (tlvs 0 s (content_at s tag start stop) stop) refl refl
-      u.fits (row_of_lem s stop (content_at s tag start stop)) u.sound
-  unit_ref g Past u = tt
+  unit_ref g (Some h) u =
+      last_in_ref g 2 unit_kind (content_at s h.tag h.start h.stop) 0 h.stop (content_at s h.tag h.start h.stop) (tlvs 0 s (content_at s h.tag h.start h.stop) h.stop) refl refl
+      u.fits (row_of_lem s h.stop (content_at s h.tag h.start h.stop)) u.sound
+  unit_ref g None u = tt
 
-  pub handle_ref : judge s ≡ Accepted → (k g : ℕ) → GoRef (handle s k g)
+  pub handle_ref : judge s ≡ Ok tt → (k g : ℕ) → GoRef (handle s k g)
   unfolding handle unit_row every tags_of grammar shaped_as plain shape_of shapes number_in follows_of kind_of fixed_of among
   handle_ref e k g =
       let w = page_sound s e in
@@ -205,48 +203,48 @@ module _ (s : List ℕ) where
   ChoiceRef Stay = Unit {0}
   ChoiceRef Unknown = Unit {0}
 
-  follow_ref : (left start stop : ℕ) → stop ≤ length s → Sound s left reference_kind start 0 (tlvs 0 s start stop) → (h : Head) → head_at s start stop ≡ h → ChoiceRef (follow h)
+  follow_ref : (left start stop : ℕ) → stop ≤ length s → Sound s left reference_kind start 0 (tlvs 0 s start stop) → (h : Option Tlv) → head_at s start stop ≡ h → ChoiceRef (follow h)
   unfolding follow every tags_of grammar
-  follow_ref left start stop l k (Tlv tag a b) e =
-      let i = first_proper s stop left reference_kind start 0 start tag a b (tlvs 0 s start stop) (row_of_lem s stop start) k e in
-      let j = tlv_in s start stop tag a b e in
-      let t = known_tag s left reference_kind start 0 tag start a b i.0 (λ t. eqb t 0x0C) refl in
-      ref_fine left reference_kind start 0 start a b (rw (eqb-true tag 0x0C t) at i.0) (omega arith)
-  follow_ref left start stop l k Past e = tt
+  follow_ref left start stop l k (Some h) e =
+      let i = first_proper s stop left reference_kind start 0 start h.tag h.start h.stop (tlvs 0 s start stop) (row_of_lem s stop start) k e in
+      let j = tlv_in s start stop h.tag h.start h.stop e in
+      let t = known_tag s left reference_kind start 0 h.tag start h.start h.stop i.0 (λ t. eqb t 0x0C) refl in
+      ref_fine left reference_kind start 0 start h.start h.stop (rw (eqb-true h.tag 0x0C t) at i.0) (omega arith)
+  follow_ref left start stop l k None e = tt
 
   -- the TLV behind a case's value is its page reference
   behind_value : (left from least to stop : ℕ) (rest : Tlvs) → 17 ≤ least → stop ≤ length s → Row s stop to rest → Sound s (suc left) case_kind from least rest →
-      (h : Head) → head_at s to stop ≡ h → ChoiceRef (follow_in s h)
+      (h : Option Tlv) → head_at s to stop ≡ h → ChoiceRef (follow_in s h)
   unfolding follow_in every tags_of grammar cell_of cell_in among
-  behind_value left from least to stop rest f l w k (Tlv tag a b) e =
-      let i = first_proper s stop (suc left) case_kind from least to tag a b rest w k e in
-      let j = tlv_in s to stop tag a b e in
-      let o = its_place s (suc left) case_kind from least tag to a b i.0 in
-      let t = known_tag s (suc left) case_kind from least tag to a b i.0 (λ t. cond (eqb t 0x12) true (eqb (cell_of case_kind t) 17)) refl in
-      both (eqb tag 0x12)
-      (λ u. follow_ref left a b (omega arith) (reference_in left case_kind from least to a b refl (rw (eqb-true tag 0x12 u) at i.0)) (head_at s a b) refl)
+  behind_value left from least to stop rest f l w k (Some h) e =
+      let i = first_proper s stop (suc left) case_kind from least to h.tag h.start h.stop rest w k e in
+      let j = tlv_in s to stop h.tag h.start h.stop e in
+      let o = its_place s (suc left) case_kind from least h.tag to h.start h.stop i.0 in
+      let t = known_tag s (suc left) case_kind from least h.tag to h.start h.stop i.0 (λ t. cond (eqb t 0x12) true (eqb (cell_of case_kind t) 17)) refl in
+      both (eqb h.tag 0x12)
+      (λ u. follow_ref left h.start h.stop (omega arith) (reference_in left case_kind from least to h.start h.stop refl (rw (eqb-true h.tag 0x12 u) at i.0)) (head_at s h.start h.stop) refl)
       (λ u.
-      let c : cell_of case_kind tag ≡ 17 = eqb-true (cell_of case_kind tag) 17 (other (eqb tag 0x12) (eqb (cell_of case_kind tag) 17) t u) in
+      let c : cell_of case_kind h.tag ≡ 17 = eqb-true (cell_of case_kind h.tag) 17 (other (eqb h.tag 0x12) (eqb (cell_of case_kind h.tag) 17) t u) in
       let x = o.ordered in
-      let y : cell_of case_kind tag ≡ least = omega arith in
+      let y : cell_of case_kind h.tag ≡ least = omega arith in
       let z : 3 ≤ 17 % 16 = rw c at (o.again y) in
       absurd (omega arith))
-  behind_value left from least to stop rest f l w k Past e = tt
+  behind_value left from least to stop rest f l w k None e = tt
 
 module _ (c : Card) where
   abbrev s : List ℕ
   s = c.run.page
 
   case_choice_ref : (bytes : List ℕ) (left start stop : ℕ) (rest : Choice) → stop ≤ length s → Sound s (suc left) case_kind start 0 (tlvs 0 s start stop) → ChoiceRef s rest →
-      (h : Head) → head_at s start stop ≡ h → ChoiceRef s (case_choice c bytes stop rest h)
+      (h : Option Tlv) → head_at s start stop ≡ h → ChoiceRef s (case_choice c bytes stop rest h)
   unfolding case_choice every tags_of grammar cell_of cell_in among
-  case_choice_ref bytes left start stop rest l k r (Tlv tag from to) e =
-      let i = first_proper s stop (suc left) case_kind start 0 start tag from to (tlvs 0 s start stop) (row_of_lem s stop start) k e in
-      let f = known_tag s (suc left) case_kind start 0 tag start from to i.0 (λ t. leb 17 (cell_of case_kind t)) refl in
-      let v = behind_value s left start (cell_of case_kind tag) to stop i.1.0 (leb-true 17 (cell_of case_kind tag) f) l i.1.1 i.1.2 (head_at s to stop) refl in
-      either (ChoiceRef s) (is_undefined (complaint c [] (case_value s tag from to))) {a = Unknown} (λ _. tt)
-      (λ _. either (ChoiceRef s) (same (joined c (case_value s tag from to)) bytes) (λ _. v) (λ _. r))
-  case_choice_ref bytes left start stop rest l k r Past e = r
+  case_choice_ref bytes left start stop rest l k r (Some h) e =
+      let i = first_proper s stop (suc left) case_kind start 0 start h.tag h.start h.stop (tlvs 0 s start stop) (row_of_lem s stop start) k e in
+      let f = known_tag s (suc left) case_kind start 0 h.tag start h.start h.stop i.0 (λ t. leb 17 (cell_of case_kind t)) refl in
+      let v = behind_value s left start (cell_of case_kind h.tag) h.stop stop i.1.0 (leb-true 17 (cell_of case_kind h.tag) f) l i.1.1 i.1.2 (head_at s h.stop stop) refl in
+      either (ChoiceRef s) (is_undefined (complaint c [] (case_value s h.tag h.start h.stop))) {a = Unknown} (λ _. tt)
+      (λ _. either (ChoiceRef s) (same (joined c (case_value s h.tag h.start h.stop)) bytes) (λ _. v) (λ _. r))
+  case_choice_ref bytes left start stop rest l k r None e = r
 
   pub choose_ref : (bytes : List ℕ) (left from last end at : ℕ) (r : Tlvs) → end ≤ length s → Row s end at r → Sound s (suc (suc left)) branch_kind from last r → ChoiceRef s (choose c bytes r)
   unfolding choose every tags_of grammar content_at attributes_end spot_or shape_of shapes number_in among follows_of kind_of fixed_of kind_at gap_of

@@ -26,12 +26,6 @@ use Rattle.rules.specs.Command.{Execute, execute_of, result_complaint, indicator
 use Rattle.rules.specs.Step.{Move, onwards, jump, away, back, send, finish, Plan, refuses, does, runs_out, unless, storing, branch_by, branch, perform, setting_complaint, set_variable, list_at, get_length, cases_complaint, choose, chosen, branch_on_slot, branch_on_value, exit, execute}
 use Rattle.rules.specs.Step.{ByteCode, setting_variables, going_back, branching, exiting, executing, getting_length, unknown, byte_code, plan_by, plan_for, here, decide, with_results, answer_by, answer_for, marked, placed, entered, sending, leaving, wanting, back_to, go_back, moved, failed, applied, stepped, answered}
 use Rattle.rules.specs.IsCard.{within, value_fine, slot_fine, history_fine, guard_fine, is_open, is_accepted, complaint_free, sends_by, sends, hand_fine, wanted_fine, run_fine, is_card}
-use Rattle.rules.specs.declared.Head.{Head}
-use Rattle.rules.specs.declared.Head.TheVariants.{Tlv, Past}
-use Rattle.rules.specs.declared.Spot.{Spot}
-use Rattle.rules.specs.declared.Spot.TheVariants.{After, Cut}
-use Rattle.rules.specs.declared.Judged.{Judged}
-use Rattle.rules.specs.declared.Judged.TheVariants.{Accepted, Rejected}
 use Rattle.rules.specs.declared.Target.{Target}
 use Rattle.rules.specs.declared.Target.TheVariants.{Unit as Own, Lacking, Other}
 use Rattle.rules.specs.declared.Action.{Action}
@@ -50,6 +44,10 @@ use Rattle.rules.proofs.StaysCardPage.{PageFine, page_fine, count_more}
 use Rattle.rules.proofs.StaysCardReference.{GoRef, ChoiceRef, handle_ref, branch_ref}
 use Rattle.rules.proofs.StaysCardHistory.{between, may_want, HistoryFit, history_fit, fit_history, left_fit, lowered_fit, last_wanted}
 use Rattle.rules.proofs.StaysCardWrite.{over, Stored, stores, refused, none_worse, write_stored, set_all_stored, results_stored}
+use Rattle.std.specs.Prelude.{Option, Some, None, Result, Ok, Err}
+use Rattle.rules.specs.declared.Tlv.{Tlv}
+use Rattle.rules.specs.declared.Rejection.{Rejection}
+use Rattle.rules.specs.Built.{some_tlv}
 
 -- a card whose page runs, but for the command in hand
 pub record Running (c : Card) : Type 0 where
@@ -57,16 +55,16 @@ pub record Running (c : Card) : Type 0 where
   pub history : history_fine c.history ≡ true
   pub opened : is_open c.guard ≡ true
   pub unwanted : length c.wanted ≡ 0
-  pub accepted : judge c.run.page ≡ Accepted
+  pub accepted : judge c.run.page ≡ Ok tt
   pub unit : c.run.unit < unit_count c.run.page
   pub place : is_place c.run.page c.run.unit c.run.place ≡ true
 
-accept : (j : Judged) → is_accepted j ≡ true → j ≡ Accepted
+accept : (j : Result (Unit {0}) Rejection) → is_accepted j ≡ true → j ≡ Ok tt
 unfolding is_accepted
-accept Accepted e = refl
-accept (Rejected class at) e = absurd (false≢true e)
+accept (Ok u) e = refl
+accept (Err q) e = absurd (false≢true e)
 
-pub empty_page : judge [] ≡ Accepted → ⊥
+pub empty_page : judge [] ≡ Ok tt → ⊥
 unfolding judge
 empty_page e = let z : ◌≡◌ {A = ℕ} 0 1 = cc in omega arith
 
@@ -76,7 +74,7 @@ open_guard unlocked e = refl
 open_guard (locked word) e = absurd (false≢true e)
 
 module _ (c : Card) where
-  run_fine_lem : (s : List ℕ) → judge s ≡ Accepted → is_open c.guard ≡ true → length c.wanted ≡ 0 → c.run.unit < unit_count s → is_place s c.run.unit c.run.place ≡ true →
+  run_fine_lem : (s : List ℕ) → judge s ≡ Ok tt → is_open c.guard ≡ true → length c.wanted ≡ 0 → c.run.unit < unit_count s → is_place s c.run.unit c.run.place ≡ true →
       hand_fine c c.run.hand ≡ true → run_fine c s ≡ true
   unfolding run_fine is_accepted
   run_fine_lem [] a o w u p h = absurd (empty_page a)
@@ -94,7 +92,7 @@ module _ (c : Card) where
       })
 
   fine_run : (s : List ℕ) → (length s ≡ 0 → ⊥) → run_fine c s ≡ true →
-      (judge s ≡ Accepted) × (is_open c.guard ≡ true) × (length c.wanted ≡ 0) × (c.run.unit < unit_count s) × (is_place s c.run.unit c.run.place ≡ true) × (hand_fine c c.run.hand ≡ true)
+      (judge s ≡ Ok tt) × (is_open c.guard ≡ true) × (length c.wanted ≡ 0) × (c.run.unit < unit_count s) × (is_place s c.run.unit c.run.place ≡ true) × (hand_fine c c.run.hand ≡ true)
   unfolding run_fine
   fine_run [] n e = absurd (n refl)
   fine_run (x ∷ xs) n e =
@@ -217,17 +215,17 @@ module _ (s : List ℕ) where
   unit_from_below name k (past p) = tt
   unit_from_below name k (tlv tag at start stop rest) =
       both (eqb (plain tag) 0x0A)
-      (λ t. rw t (either (UnitBelow (count_in 0x0A (k + 1) rest)) (holds s name (anchor_in s (Tlv tag start stop))) {a = Own k}
+      (λ t. rw t (either (UnitBelow (count_in 0x0A (k + 1) rest)) (holds s name (anchor_in s (some_tlv tag start stop))) {a = Own k}
       (λ _. let m = count_more s 0x0A (k + 1) rest in omega arith) (λ _. unit_from_below name (k + 1) rest)))
       (λ t. rw t (unit_from_below name k rest))
 
-  target_by_below : PageFine s → (r : List ℕ) (p : Spot) → UnitBelow (unit_count s) (target_by s r p)
+  target_by_below : PageFine s → (r : List ℕ) (p : Option ℕ) → UnitBelow (unit_count s) (target_by s r p)
   unfolding target_by own_unit unit_count count
-  target_by_below f r (After n) =
+  target_by_below f r (Some n) =
       either (UnitBelow (unit_count s)) (is_own s (take n r)) {b = Other}
       (λ _. either (UnitBelow (unit_count s)) (eqb (length (drop (n + 1) r)) 0) {a = Own 0} (λ _. f.units) (λ _. unit_from_below (drop (n + 1) r) 0 (page_row s)))
       (λ _. tt)
-  target_by_below f r Cut = tt
+  target_by_below f r None = tt
 
   target_below : PageFine s → (r : List ℕ) → UnitBelow (unit_count s) (target s r)
   unfolding target
@@ -271,10 +269,10 @@ sends_by_page c d e tag start stop executing = rw e
 sends_by_page c d e tag start stop getting_length = refl
 sends_by_page c d e tag start stop unknown = refl
 
-sends_page : (c d : Card) → d.run.page ≡ c.run.page → (h : Head) → sends d h ≡ sends c h
+sends_page : (c d : Card) → d.run.page ≡ c.run.page → (h : Option Tlv) → sends d h ≡ sends c h
 unfolding sends
-sends_page c d e (Tlv tag start stop) = sends_by_page c d e tag start stop (byte_code tag)
-sends_page c d e Past = refl
+sends_page c d e (Some h) = sends_by_page c d e h.tag h.start h.stop (byte_code h.tag)
+sends_page c d e None = refl
 
 sending_card : (c : Card) → Running c → (b : List ℕ) → within 1 255 (length b) ≡ true → sends c (here c) ≡ true → is_card (sending c b) ≡ true
 unfolding sending with_run hand_fine here
@@ -428,7 +426,7 @@ module _ (c : Card) (r : Running c) where
   free_of k e = rw e
 
   -- a byte code at the card's place
-  module _ (tag start stop : ℕ) (at : here c ≡ Tlv tag start stop) where
+  module _ (tag start stop : ℕ) (at : here c ≡ some_tlv tag start stop) where
     next : is_place s c.run.unit stop ≡ true
     unfolding here
     next = page.next c.run.unit c.run.place tag start stop r.place at
@@ -471,10 +469,10 @@ module _ (c : Card) (r : Running c) where
         (λ k. storing_fit c (onwards stop) next (write_stored c r.areas page.served n 3 (shortest (length (joined c list))) (omega arith) (none_worse (writing c n) (complaint c [] list) k).0))
     plan_by_fit unknown e = fits_no Syntax
 
-  plan_for_fit : (h : Head) → here c ≡ h → Fit c (plan_for c h)
+  plan_for_fit : (h : Option Tlv) → here c ≡ h → Fit c (plan_for c h)
   unfolding plan_for
-  plan_for_fit (Tlv tag start stop) e = plan_by_fit tag start stop e (byte_code tag) refl
-  plan_for_fit Past e = fits_out
+  plan_for_fit (Some h) e = plan_by_fit h.tag h.start h.stop e (byte_code h.tag) refl
+  plan_for_fit None e = fits_out
 
   pub stepped_card : is_card (stepped c).card ≡ true
   unfolding stepped decide
@@ -503,15 +501,15 @@ module _ (c : Card) (r : Running c) where
   in_hand_lem empty n f = absurd (true≢false n)
   in_hand_lem (by_code b) n f = (first (within 1 255 (length b)) _ f, second (within 1 255 (length b)) _ f)
 
-  answer_for_fit : (within 1 255 (length (in_hand c.run.hand)) ≡ true) × (sends c (here c) ≡ true) → (g : ℕ) (w : List ℕ) (after h : Head) → here c ≡ h → Fit c (answer_for c g w after h)
+  answer_for_fit : (within 1 255 (length (in_hand c.run.hand)) ≡ true) × (sends c (here c) ≡ true) → (g : ℕ) (w : List ℕ) (after h : Option Tlv) → here c ≡ h → Fit c (answer_for c g w after h)
   unfolding answer_for answer_by sends execute_of
-  answer_for_fit f g w after (Tlv tag start stop) e =
-      let x = execute_of s tag start stop in
-      let k : sends_by c tag start stop (byte_code tag) ≡ true = rw e at f.1 in
-      with_results_fit c (results_stored c page.served r.areas x g w after (sent_by tag start stop (byte_code tag) k))
-      (perform_fit stop (next tag start stop e) (send (in_hand c.run.hand)) f (handle s c.run.unit g) (handle_ref s r.accepted c.run.unit g))
-  answer_for_fit f g w after Past e = fits_out
+  answer_for_fit f g w after (Some h) e =
+      let x = execute_of s h.tag h.start h.stop in
+      let k : sends_by c h.tag h.start h.stop (byte_code h.tag) ≡ true = rw e at f.1 in
+      with_results_fit c (results_stored c page.served r.areas x g w after (sent_by h.tag h.start h.stop (byte_code h.tag) k))
+      (perform_fit h.stop (next h.tag h.start h.stop e) (send (in_hand c.run.hand)) f (handle s c.run.unit g) (handle_ref s r.accepted c.run.unit g))
+  answer_for_fit f g w after None e = fits_out
 
-  pub answered_card : hand_fine c c.run.hand ≡ true → is_empty c.run.hand ≡ false → (g : ℕ) (w : List ℕ) (after : Head) → is_card (answered c g w after).card ≡ true
+  pub answered_card : hand_fine c c.run.hand ≡ true → is_empty c.run.hand ≡ false → (g : ℕ) (w : List ℕ) (after : Option Tlv) → is_card (answered c g w after).card ≡ true
   unfolding answered
   answered_card f n g w after = applied_card c r (answer_for_fit (in_hand_lem c.run.hand n f) g w after (here c) refl)

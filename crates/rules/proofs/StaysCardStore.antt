@@ -18,14 +18,14 @@ use Rattle.rules.specs.Store.{Area, environmental, permanently, temporarily, str
 use Rattle.rules.specs.Value.{shared_with, shared, inline_type, type_for}
 use Rattle.rules.specs.Keep.{cleared, listed, kept_by}
 use Rattle.rules.specs.IsCard.{within, value_fine, slot_fine, slots_fine, record_fine, repeats, records_fine, run_fine, is_card}
-use Rattle.rules.specs.declared.Part.{Part}
-use Rattle.rules.specs.declared.Part.TheVariants.{Held, Missing}
 use Rattle.rules.proofs.Choices.{both, either, not_so}
 use Rattle.rules.proofs.Writes.{same_eq, same_refl}
 use Rattle.rules.proofs.Offsets.{tests}
 use Rattle.rules.proofs.BlankTests.{first, second, pass, barred, unbarred, neither}
 use Rattle.rules.proofs.BlankStore.{from_next}
 use Rattle.rules.proofs.StaysCardParts.{AreasOf, parts_of, of_parts}
+use Rattle.std.specs.Prelude.{Option, Some, None}
+use Rattle.rules.specs.declared.Span.{Span}
 
 -- the numbers of each area
 abbrev pub Numbered : Area → ℕ → Type 0
@@ -92,13 +92,13 @@ cleared_fit xs h =
     rw (cleared_free xs)
     (record { many = length-replicate (length xs) free ∙ h.many; fine = slots_free (length xs); small = rw (room_free (length xs)) (omega arith) })
 
-pub kept_fit : (s : List ℕ) (p : Part) (xs : List Slot) → SlotsFit xs → SlotsFit (kept_by s p xs)
+pub kept_fit : (s : List ℕ) (p : Option Span) (xs : List Slot) → SlotsFit xs → SlotsFit (kept_by s p xs)
 unfolding kept_by
-kept_fit s (Held start stop) xs h =
-    let k = listed_room (part s start stop) 0x80 xs in
+kept_fit s (Some p) xs h =
+    let k = listed_room (part s p.from p.end) 0x80 xs in
     let l = h.small in
-    record { many = listed_length (part s start stop) 0x80 xs ∙ h.many; fine = listed_fine (part s start stop) 0x80 xs h.fine; small = omega arith }
-kept_fit s Missing xs h = either SlotsFit (keeps_all s) (λ _. h) (λ _. cleared_fit xs h)
+    record { many = listed_length (part s p.from p.end) 0x80 xs ∙ h.many; fine = listed_fine (part s p.from p.end) 0x80 xs h.fine; small = omega arith }
+kept_fit s None xs h = either SlotsFit (keeps_all s) (λ _. h) (λ _. cleared_fit xs h)
 
 -- the type of a slot that is read
 pub slot_at : (xs : List Slot) (k : ℕ) → slots_fine xs ≡ true → slot_fine (get_or xs k free) ≡ true
@@ -127,10 +127,10 @@ type_of_lem : (x : ℕ) → type_of x < 5
 unfolding type_of
 type_of_lem x = both (ltb x 5) (λ t. rw t (ltb-true x 5 t)) (λ t. rw t (omega arith))
 
-string_type : (s : List ℕ) (p : Part) → value_type (string_of s p) < 5
+string_type : (s : List ℕ) (p : Option Span) → value_type (string_of s p) < 5
 unfolding string_of value_type page_type
-string_type s (Held from to) = type_of_lem _
-string_type s Missing = omega arith
+string_type s (Some p) = type_of_lem _
+string_type s None = omega arith
 
 module _ (c : Card) (areas : AreasOf c) where
   read_in_type : (a : Area) (n : ℕ) → value_type (read_in a c n) < 5

@@ -16,14 +16,14 @@ use Rattle.rules.specs.Grammar.{Entry, grammar, cell_in, cell_of, misplaced, com
 use Rattle.rules.specs.Shape.{inner, shape_of, fixed_of, follows_of, kind_of, attribute, attributes_end, added, kind_at, contents, value_at, after_attributes, body_of}
 use Rattle.rules.specs.Page.{spot_or, content_at}
 use Rattle.rules.specs.Forms.{out_of_place}
-use Rattle.rules.specs.declared.Head.TheVariants.{Tlv}
-use Rattle.rules.specs.declared.Spot.{Spot}
-use Rattle.rules.specs.declared.Spot.TheVariants.{After, Cut}
 use Rattle.rules.specs.declared.Body.TheVariants.{Inner, Short}
+use Rattle.rules.proofs.Built.{same_tlv}
 use Rattle.rules.proofs.Choices.{both}
 use Rattle.rules.proofs.BlankTests.{first, second}
 use Rattle.rules.proofs.IsolationRows.{Row, tlv_in}
 use Rattle.rules.proofs.StaysCardWalk.{Walked, Sound, Inside, Proper, sound_tlv}
+use Rattle.std.specs.Prelude.{Option, Some, None}
+use Rattle.rules.specs.Built.{some_tlv}
 
 -- a test of every number of a list
 unfoldable pub every : (ℕ → Bool) → List ℕ → Bool
@@ -91,13 +91,13 @@ module _ (s : List ℕ) (left within from last tag at start stop : ℕ) (proper 
 
 -- the value of a tag that says TLVs, after its attributes and fixed bytes
 module _ (s : List ℕ) (tag start stop : ℕ) (P : ℕ → ℕ → Type 0) where
-  after_fixed : (shape a : ℕ) (p : Spot) → follows_of shape ≡ inner → Inside P (after_attributes s shape a stop p) →
+  after_fixed : (shape a : ℕ) (p : Option ℕ) → follows_of shape ≡ inner → Inside P (after_attributes s shape a stop p) →
       P (kind_at s (kind_of shape) (spot_or stop p) stop) (spot_or stop p + fixed_of shape)
   unfolding after_attributes spot_or value_at contents added
-  after_fixed shape a (After p) e h =
+  after_fixed shape a (Some p) e h =
       let k : Inside P (cond (ltb (stop - p) (fixed_of shape)) Short (Inner (kind_at s (kind_of shape) p stop) (p + fixed_of shape))) = rw (e, add-zero (fixed_of shape)) at h in
       both (ltb (stop - p) (fixed_of shape)) (λ t. absurd (rw t at k)) (λ t. rw t at k)
-  after_fixed shape a Cut e h = absurd h
+  after_fixed shape a None e h = absurd h
 
   pub inner_of : (within : ℕ) → eqb within command_kind ≡ false → follows_of (shape_of tag) ≡ inner → Inside P (body_of s within tag start stop) →
       P (kind_at s (kind_of (shape_of tag)) (content_at s tag start stop) stop) (content_at s tag start stop + fixed_of (shape_of tag))
@@ -139,13 +139,12 @@ module _ (s : List ℕ) (left within from last tag at start stop : ℕ) (proper 
       rw k at (shaped form kind fixed all e (rw k c))
 
 -- the first TLV of a row, and what follows it
-pub first_proper : (s : List ℕ) (end left within from last at tag start stop : ℕ) (r : Tlvs) → Row s end at r → Sound s left within from last r → head_at s at end ≡ Tlv tag start stop →
+pub first_proper : (s : List ℕ) (end left within from last at tag start stop : ℕ) (r : Tlvs) → Row s end at r → Sound s left within from last r → head_at s at end ≡ some_tlv tag start stop →
     Proper s left within from last tag at start stop × ((rest : Tlvs) × Row s end stop rest × Sound s left within from (cell_of within tag) rest)
 first_proper s end left within from last at tag start stop (done p) k h e = let i = tlv_in s at end tag start stop e in absurd (omega arith)
 first_proper s end left within from last at tag start stop (past p) k h e = let z : ◌≡◌ {A = ℕ} 0 1 = cc in absurd (omega arith)
 first_proper s end left within from last at tag start stop (tlv t p a b rest) k h e =
-    let e1 : t ≡ tag = cc in
-    let e2 : a ≡ start = cc in
-    let e3 : b ≡ stop = cc in
+    let same : some_tlv t a b ≡ some_tlv tag start stop = cc in
+    let y = same_tlv same in
     let i = sound_tlv s left within from last t p a b rest h in
-    (rw (k.0, e1, e2, e3) at i.0, (rest, rw e3 at k.2, rw e1 at i.1))
+    (rw (k.0, y.0, y.1, y.2) at i.0, (rest, rw y.2 at k.2, rw y.0 at i.1))

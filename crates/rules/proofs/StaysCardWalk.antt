@@ -14,33 +14,32 @@ use Rattle.rules.specs.Loader.{shape_look, judged_look, look, or_then, lacking, 
 use Rattle.rules.specs.declared.Body.{Body}
 use Rattle.rules.specs.declared.Body.TheVariants.{Inner, Leaf, Short}
 use Rattle.rules.specs.declared.Look.TheVariants.{Fault, Over}
-use Rattle.rules.specs.declared.Found.{Found}
-use Rattle.rules.specs.declared.Found.TheVariants.{Fine, At}
 use Rattle.rules.proofs.Choices.{both}
+use Rattle.std.specs.Prelude.{Option, Some, None}
 
-pub not_fine : (p : ℕ) → At p ≡ Fine → ⊥
+pub not_fine : (p : ℕ) → Some p ≡ None → ⊥
 not_fine p e = let z : ◌≡◌ {A = ℕ} 0 1 = cc in omega arith
 
-pub then_fine : (a b : Found) → or_then a b ≡ Fine → (a ≡ Fine) × (b ≡ Fine)
+pub then_fine : (a b : Option ℕ) → or_then a b ≡ None → (a ≡ None) × (b ≡ None)
 unfolding or_then
-then_fine Fine b e = (refl, e)
-then_fine (At p) b e = absurd (not_fine p e)
+then_fine None b e = (refl, e)
+then_fine (Some p) b e = absurd (not_fine p e)
 
 -- no class but the third found a fault in a container
 pub record Walked (s : List ℕ) (left kind own from end : ℕ) : Type 0 where
-  pub shapes : walk left s 2 kind own from end ≡ Fine
-  pub places : walk left s 4 kind own from end ≡ Fine
-  pub anchors : walk left s 5 kind own from end ≡ Fine
-  pub sizes : walk left s 6 kind own from end ≡ Fine
-  pub forms : walk left s 7 kind own from end ≡ Fine
+  pub shapes : walk left s 2 kind own from end ≡ None
+  pub places : walk left s 4 kind own from end ≡ None
+  pub anchors : walk left s 5 kind own from end ≡ None
+  pub sizes : walk left s 6 kind own from end ≡ None
+  pub forms : walk left s 7 kind own from end ≡ None
 
 -- the same of a row, after the part at the cell `last`
 pub record Sound (s : List ℕ) (left within from last : ℕ) (row : Tlvs) : Type 0 where
-  pub shapes : row_fault s 2 (λ k o p e. walk left s 2 k o p e) within from last row ≡ Fine
-  pub places : row_fault s 4 (λ k o p e. walk left s 4 k o p e) within from last row ≡ Fine
-  pub anchors : row_fault s 5 (λ k o p e. walk left s 5 k o p e) within from last row ≡ Fine
-  pub sizes : row_fault s 6 (λ k o p e. walk left s 6 k o p e) within from last row ≡ Fine
-  pub forms : row_fault s 7 (λ k o p e. walk left s 7 k o p e) within from last row ≡ Fine
+  pub shapes : row_fault s 2 (λ k o p e. walk left s 2 k o p e) within from last row ≡ None
+  pub places : row_fault s 4 (λ k o p e. walk left s 4 k o p e) within from last row ≡ None
+  pub anchors : row_fault s 5 (λ k o p e. walk left s 5 k o p e) within from last row ≡ None
+  pub sizes : row_fault s 6 (λ k o p e. walk left s 6 k o p e) within from last row ≡ None
+  pub forms : row_fault s 7 (λ k o p e. walk left s 7 k o p e) within from last row ≡ None
 
 -- a value is not too short, and what is said of a container holds of what it holds
 abbrev pub Inside : (ℕ → ℕ → Type 0) → Body → Type 0
@@ -68,14 +67,14 @@ Judging P (Inner kind p) = eqb kind command_kind ≡ false → P kind p
 Judging P Leaf = Unit {0}
 Judging P Short = Unit {0}
 
-module _ (below : ℕ → ℕ → ℕ → ℕ → Found) (at stop : ℕ) (rest : Found) where
-  shape_fine : (b : Body) → goes below at stop rest (shape_look b) ≡ Fine → Inside (λ kind p. below kind at p stop ≡ Fine) b × (rest ≡ Fine)
+module _ (below : ℕ → ℕ → ℕ → ℕ → Option ℕ) (at stop : ℕ) (rest : Option ℕ) where
+  shape_fine : (b : Body) → goes below at stop rest (shape_look b) ≡ None → Inside (λ kind p. below kind at p stop ≡ None) b × (rest ≡ None)
   unfolding goes shape_look
   shape_fine Short e = absurd (not_fine at e)
   shape_fine Leaf e = (tt, e)
   shape_fine (Inner kind p) e = then_fine (below kind at p stop) rest e
 
-  into_fine : (b : Body) → goes below at stop rest (judged_look b) ≡ Fine → Judging (λ kind p. below kind at p stop ≡ Fine) b × (rest ≡ Fine)
+  into_fine : (b : Body) → goes below at stop rest (judged_look b) ≡ None → Judging (λ kind p. below kind at p stop ≡ None) b × (rest ≡ None)
   unfolding goes judged_look
   into_fine Short e = (tt, e)
   into_fine Leaf e = (tt, e)
@@ -84,16 +83,16 @@ module _ (below : ℕ → ℕ → ℕ → ℕ → Found) (at stop : ℕ) (rest :
       (λ t. (λ c. absurd (true≢false (sym t ∙ c)), rw t at e))
       (λ t. let k = then_fine (below kind at p stop) rest (rw t at e) in (λ c. k.0, k.1))
 
-  judged_fine : (fault beyond : Bool) (b : Body) → goes below at stop rest (cond fault Fault (cond beyond Over (judged_look b))) ≡ Fine →
-      (fault ≡ false) × (rest ≡ Fine) × (beyond ≡ false → Judging (λ kind p. below kind at p stop ≡ Fine) b)
+  judged_fine : (fault beyond : Bool) (b : Body) → goes below at stop rest (cond fault Fault (cond beyond Over (judged_look b))) ≡ None →
+      (fault ≡ false) × (rest ≡ None) × (beyond ≡ false → Judging (λ kind p. below kind at p stop ≡ None) b)
   unfolding goes
   judged_fine true beyond b e = absurd (not_fine at e)
   judged_fine false true b e = (refl, e, λ c. absurd (true≢false c))
   judged_fine false false b e = let k = into_fine b e in (refl, k.1, λ c. k.0)
 
 module _ (s : List ℕ) (left at stop : ℕ) where
-  all_classes : (b : Body) → Inside (λ kind p. walk left s 2 kind at p stop ≡ Fine) b → Judging (λ kind p. walk left s 4 kind at p stop ≡ Fine) b →
-      Judging (λ kind p. walk left s 5 kind at p stop ≡ Fine) b → Judging (λ kind p. walk left s 6 kind at p stop ≡ Fine) b → Judging (λ kind p. walk left s 7 kind at p stop ≡ Fine) b →
+  all_classes : (b : Body) → Inside (λ kind p. walk left s 2 kind at p stop ≡ None) b → Judging (λ kind p. walk left s 4 kind at p stop ≡ None) b →
+      Judging (λ kind p. walk left s 5 kind at p stop ≡ None) b → Judging (λ kind p. walk left s 6 kind at p stop ≡ None) b → Judging (λ kind p. walk left s 7 kind at p stop ≡ None) b →
       Inside (λ kind p. eqb kind command_kind ≡ false → Walked s left kind at p stop) b
   all_classes (Inner kind p) k2 k4 k5 k6 k7 = λ c. record { shapes = k2; places = k4 c; anchors = k5 c; sizes = k6 c; forms = k7 c }
   all_classes Leaf k2 k4 k5 k6 k7 = tt

@@ -16,8 +16,6 @@ use Rattle.rules.specs.Value.{pieces_of, joined, type_for}
 use Rattle.rules.specs.Command.{Execute, has_general, has_output, general_number, output_number, optimises, text_type, optimised, output, write_slot, then_output, results, result_complaint}
 use Rattle.rules.specs.Step.{number_before, setting_complaint, then_set, set_all}
 use Rattle.rules.specs.IsCard.{value_fine, slot_fine, record_fine}
-use Rattle.rules.specs.declared.Head.{Head}
-use Rattle.rules.specs.declared.Head.TheVariants.{Tlv, Past}
 use Rattle.rules.specs.declared.Complaint.{Complaint}
 use Rattle.rules.specs.declared.Complaint.TheVariants.{Nothing, Undefined, Secured, Misused}
 use Rattle.rules.proofs.Choices.{both, either}
@@ -26,6 +24,8 @@ use Rattle.rules.proofs.BlankTests.{pass}
 use Rattle.rules.proofs.StaysCardParts.{AreasOf}
 use Rattle.rules.proofs.StaysCardStore.{Numbered, numbered, slots_set, records_write, type_for_type}
 use Rattle.rules.proofs.StaysCardHistory.{between}
+use Rattle.std.specs.Prelude.{Option, Some, None}
+use Rattle.rules.specs.declared.Tlv.{Tlv}
 
 -- a card with other permanent and temporary variables
 abbrev pub over : Card → List Record → List Slot → Card
@@ -141,15 +141,15 @@ module _ (c : Card) (served : length (service c.run.page) ≤ 16) where
   TypeFine free = Unit {0}
   TypeFine (held type bytes) = type < 5
 
-  optimised_type : (r : List ℕ) (h : Head) → TypeFine (optimised r h)
+  optimised_type : (r : List ℕ) (h : Option Tlv) → TypeFine (optimised r h)
   unfolding optimised
-  optimised_type r (Tlv tag start stop) =
-      either TypeFine (eqb (plain tag) 0x0D)
-      (λ _. either TypeFine (ltb start stop) {a = held _ _} {b = held 0 []} (λ _. text_type_lem (get_or r start 0)) (λ _. omega arith))
+  optimised_type r (Some h) =
+      either TypeFine (eqb (plain h.tag) 0x0D)
+      (λ _. either TypeFine (ltb h.start h.stop) {a = held _ _} {b = held 0 []} (λ _. text_type_lem (get_or r h.start 0)) (λ _. omega arith))
       (λ _. omega arith)
-  optimised_type r Past = omega arith
+  optimised_type r None = omega arith
 
-  output_type : (r : List ℕ) (x : Execute) (h : Head) → TypeFine (output r x h)
+  output_type : (r : List ℕ) (x : Execute) (h : Option Tlv) → TypeFine (output r x h)
   unfolding output
   output_type r x h = either TypeFine (optimises x) {b = held 0 r} (λ _. optimised_type r h) (λ _. omega arith)
 
@@ -158,7 +158,7 @@ module _ (c : Card) (served : length (service c.run.page) ≤ 16) where
   write_slot_stored p t a n e free f = stores p t a
   write_slot_stored p t a n e (held type bytes) f = widen c p t (write_stored (over c p t) a served n type bytes f e)
 
-  then_output_stored : (r : List ℕ) (x : Execute) (h : Head) → cond (has_output x) (writing c (output_number c.run.page x)) Nothing ≡ Nothing → {w : Written} → Stored c w → Stored c (then_output r x h w)
+  then_output_stored : (r : List ℕ) (x : Execute) (h : Option Tlv) → cond (has_output x) (writing c (output_number c.run.page x)) Nothing ≡ Nothing → {w : Written} → Stored c w → Stored c (then_output r x h w)
   unfolding then_output
   then_output_stored r x h e (stores p t a) =
       both (has_output x)
@@ -166,7 +166,7 @@ module _ (c : Card) (served : length (service c.run.page) ≤ 16) where
       (λ u. rw u (stores p t a))
   then_output_stored r x h e refused = refused
 
-  pub results_stored : AreasOf c → (x : Execute) (g : ℕ) (r : List ℕ) (h : Head) → result_complaint c x ≡ Nothing → Stored c (results c x g r h)
+  pub results_stored : AreasOf c → (x : Execute) (g : ℕ) (r : List ℕ) (h : Option Tlv) → result_complaint c x ≡ Nothing → Stored c (results c x g r h)
   unfolding results result_complaint
   results_stored a x g r h e =
       let k = none_worse _ (cond (has_output x) (writing c (output_number c.run.page x)) Nothing) e in

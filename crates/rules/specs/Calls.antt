@@ -1,5 +1,5 @@
 -- The host's calls: what each answers, the card after it, and every byte of a lent buffer.
-use Rattle.std.specs.Prelude.{ℕ, zero, suc, ◌+◌, ◌-◌, Bool, true, false, cond, List, [], ◌∷◌, ◌++◌, length, get_or, set, drop, replicate, ltb, leb, eqb}
+use Rattle.std.specs.Prelude.{ℕ, zero, suc, ◌+◌, ◌-◌, Bool, true, false, cond, List, [], ◌∷◌, ◌++◌, length, get_or, set, drop, replicate, ltb, leb, eqb, Option, Some, None, Result, Ok, Err}
 use Rattle.rules.specs.Numbers.{number, loaded_number, outcome_number, told_number}
 use Rattle.rules.specs.Loader.{judge}
 use Rattle.rules.specs.Page.{element}
@@ -9,16 +9,6 @@ use Rattle.rules.specs.Keep.{rested, started}
 use Rattle.rules.specs.Command.{reply}
 use Rattle.rules.specs.Step.{Effect, effect, here, stepped, answered}
 use Rattle.rules.specs.IsCard.{within, is_card}
-use Rattle.rules.specs.declared.Head.{Head}
-use Rattle.rules.specs.declared.Head.TheVariants.{Tlv, Past}
-use Rattle.rules.specs.declared.Reply.{Reply}
-use Rattle.rules.specs.declared.Reply.TheVariants.{Result, Malformed}
-use Rattle.rules.specs.declared.Judged.{Judged}
-use Rattle.rules.specs.declared.Judged.TheVariants.{Accepted, Rejected}
-use Rattle.rules.specs.declared.Loaded.{Loaded}
-use Rattle.rules.specs.declared.Loaded.TheVariants.{Started, Faulty, Unloaded}
-use Rattle.rules.specs.declared.Told.{Told}
-use Rattle.rules.specs.declared.Told.TheVariants.{Done, Undone}
 use Rattle.rules.specs.declared.Refusal.{Refusal}
 use Rattle.rules.specs.declared.Refusal.TheVariants.{Variable, Memory, Security, Buffer, Call, Response, State}
 use Rattle.rules.specs.declared.Outcome.{Outcome}
@@ -26,6 +16,11 @@ use Rattle.rules.specs.declared.Outcome.TheVariants.{On, Command, Page, Ended, R
 use Rattle.rules.specs.declared.Stepped.{Stepped}
 use Rattle.rules.specs.declared.Ran.{Ran}
 use Rattle.rules.specs.declared.Shown.{Shown}
+use Rattle.rules.specs.declared.Tlv.{Tlv}
+use Rattle.rules.specs.declared.Rejection.{Rejection}
+use Rattle.rules.specs.declared.LoadError.{LoadError}
+use Rattle.rules.specs.Built.{faulty_at, unloaded}
+use Rattle.rules.specs.declared.Reply.{Reply}
 
 -- A call with what the host lends. A step, a run and a response have a command buffer; an empty Service ID stands for none.
 pub data Asked : Type 0 where
@@ -40,8 +35,8 @@ pub data Asked : Type 0 where
 
 -- An answer, with the command buffer after the call and the reference of a page wanted where there are such.
 pub data Answer : Type 0 where
-  told : Told → Answer
-  loaded : Loaded → Answer
+  told : Result (Unit {0}) Refusal → Answer
+  loaded : Result (Unit {0}) LoadError → Answer
   taken : Stepped → (buffer reference : List ℕ) → Answer
   ran : Ran → (buffer reference : List ℕ) → Answer
   responded : Outcome → (buffer reference : List ℕ) → Answer
@@ -98,9 +93,9 @@ reference_after c Ended = []
 reference_after c (Refused r) = []
 
 -- the tag of a step's byte code, '00' at a unit's end
-unfoldable pub tag_of : Head → ℕ
-tag_of (Tlv tag start stop) = tag
-tag_of Past = 0
+unfoldable pub tag_of : Option Tlv → ℕ
+tag_of (Some h) = h.tag
+tag_of None = 0
 
 -- a page runs and awaits no response
 unfoldable pub ready : Card → Bool
@@ -118,12 +113,12 @@ unfoldable pub lends : List ℕ → Bool
 lends buffer = leb buffer_length (length buffer)
 
 -- a load: 1 to 7 leave all as it was
-unfoldable pub load_by : List ℕ → Card → Judged → Did
-load_by s c Accepted = did (loaded Started) (started s c)
-load_by s c (Rejected class at) = did (loaded (Faulty class at)) c
+unfoldable pub load_by : List ℕ → Card → Result (Unit {0}) Rejection → Did
+load_by s c (Ok u) = did (loaded (Ok tt)) (started s c)
+load_by s c (Err e) = did (loaded (faulty_at e.class e.place)) c
 
 unfoldable pub load_refused : Card → Refusal → Did
-load_refused c r = did (loaded (Unloaded r)) c
+load_refused c r = did (loaded (unloaded r)) c
 
 -- a step, with the unit and the tag of its byte code
 unfoldable pub step_done : List ℕ → Card → Effect → Did
@@ -168,12 +163,12 @@ respond_done buffer d =
 unfoldable pub respond_refused : List ℕ → Card → Refusal → Did
 respond_refused buffer c r = did (responded (Refused r) buffer []) c
 
-unfoldable pub respond_by : List ℕ → List ℕ → Card → Reply → Did
-respond_by response buffer c (Result g after) = respond_done buffer (answered c g response after)
-respond_by response buffer c Malformed = respond_refused buffer c Response
+unfoldable pub respond_by : List ℕ → List ℕ → Card → Option Reply → Did
+respond_by response buffer c (Some a) = respond_done buffer (answered c a.general response a.after)
+respond_by response buffer c None = respond_refused buffer c Response
 
 unfoldable pub told_refused : Card → Refusal → Did
-told_refused c r = did (told (Undone r)) c
+told_refused c r = did (told (Err r)) c
 
 -- 19 for a number above '3F' or for '05', then 18; what the host sets has type binary (House)
 unfoldable pub environment_done : ℕ → List ℕ → Card → Did
@@ -181,7 +176,7 @@ environment_done n value c =
     cond (ltb 0x3F n) (told_refused c Security)
     (cond (eqb n 5) (told_refused c Security)
     (cond (ltb longest (length value)) (told_refused c Memory)
-    (did (told Done) (with_environment c (set c.environment n (held 3 value))))))
+    (did (told (Ok tt)) (with_environment c (set c.environment n (held 3 value))))))
 
 -- what the host may see: protected variables are hidden, and a permanent one is asked for by a Service ID of 1 to 16 bytes
 unfoldable pub shown_by : Guard → Slot → Slot
@@ -209,13 +204,13 @@ read_done n id c = cond (is_card c) (display (seen (area n) c n id)) (hidden Sta
 
 -- one call
 unfoldable pub act : Asked → Card → Did
-act create c = did (told Done) created
+act create c = did (told (Ok tt)) created
 act (set_environment n value) c = admitted true c (cond (runs c) false true) (told_refused c) (environment_done n value c)
 act (load s) c = admitted true c (cond (runs c) false true) (load_refused c) (load_by s c (judge s))
 act (step buffer) c = admitted (lends buffer) c (ready c) (step_refused buffer c) (step_done buffer c (stepped c))
 act (run_up_to n buffer) c = admitted (lends buffer) c (ready c) (run_refused buffer c) (run_done buffer (steps n 0 c))
 act (respond response buffer) c = admitted (lends buffer) c (waiting c) (respond_refused buffer c) (respond_by response buffer c (reply response))
-act end c = admitted true c (runs c) (told_refused c) (did (told Done) (rested c))
+act end c = admitted true c (runs c) (told_refused c) (did (told (Ok tt)) (rested c))
 act (read_variable n id) c = did (shown (read_done n id c)) c
 
 -- a list of calls: what they answer, and the card that they leave

@@ -1,11 +1,11 @@
 -- Cases 1 to 12 of document 01, as one table: host calls on a created card, and the answers that they must get.
-use Rattle.std.specs.Prelude.{ℕ, List, [], ◌∷◌, length, replicate}
+use Rattle.std.specs.Prelude.{ℕ, List, [], ◌∷◌, length, replicate, Ok}
 use Rattle.rules.specs.Bytes.{hex}
 use Rattle.rules.specs.Calls.{Asked, load, step, run_up_to, respond, read_variable, Answer, loaded, taken, ran, responded, shown, over, hidden, padded}
-use Rattle.rules.specs.declared.Loaded.TheVariants.{Started, Faulty}
 use Rattle.rules.specs.declared.Refusal.TheVariants.{Variable}
 use Rattle.rules.specs.declared.Outcome.{Outcome}
 use Rattle.rules.specs.declared.Outcome.TheVariants.{On, Command, Page, Ended, Refused}
+use Rattle.rules.specs.Built.{faulty_at}
 
 pub record Case : Type 0 where
   pub calls : List Asked
@@ -16,10 +16,10 @@ unfoldable pub lent : List ℕ
 lent = replicate 255 0
 
 abbrev accepted : Answer
-accepted = loaded Started
+accepted = loaded (Ok tt)
 
 abbrev rejected : ℕ → ℕ → Answer
-rejected class at = loaded (Faulty class at)
+rejected class at = loaded (faulty_at class at)
 
 abbrev steps : Outcome → ℕ → ℕ → Answer
 steps o unit tag = taken (record { outcome = o; unit = unit; tag = tag }) lent []

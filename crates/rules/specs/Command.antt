@@ -1,5 +1,5 @@
 -- Execute USAT Command (clause 8.7): the outgoing command, byte for byte, and what its response brings (8.7.5).
-use Rattle.std.specs.Prelude.{ℕ, ◌+◌, ◌/◌, ◌%◌, Bool, true, false, cond, List, [], ◌∷◌, ◌++◌, length, get_or, ltb, eqb}
+use Rattle.std.specs.Prelude.{ℕ, ◌+◌, ◌/◌, ◌%◌, Bool, true, false, cond, List, [], ◌∷◌, ◌++◌, length, get_or, ltb, eqb, Option, Some, None}
 use Rattle.rules.specs.Bytes.{part, among}
 use Rattle.rules.specs.Tlvs.{Tlvs, done, past, tlv, tlvs, plain}
 use Rattle.rules.specs.Pieces.{pieces}
@@ -8,12 +8,11 @@ use Rattle.rules.specs.Page.{content_at}
 use Rattle.rules.specs.Card.{Slot, free, held, Card}
 use Rattle.rules.specs.Store.{writing, worse, Written, wrote, no_room, write}
 use Rattle.rules.specs.Value.{complaint, joined, shortest}
-use Rattle.rules.specs.declared.Head.{Head}
-use Rattle.rules.specs.declared.Head.TheVariants.{Tlv, Past}
-use Rattle.rules.specs.declared.Reply.{Reply}
-use Rattle.rules.specs.declared.Reply.TheVariants.{Result, Malformed}
 use Rattle.rules.specs.declared.Complaint.{Complaint}
 use Rattle.rules.specs.declared.Complaint.TheVariants.{Nothing}
+use Rattle.rules.specs.declared.Tlv.{Tlv}
+use Rattle.rules.specs.Built.{some_tlv, some_reply}
+use Rattle.rules.specs.declared.Reply.{Reply}
 
 -- An Execute USAT Command: its attributes and the place after them. The numbers of the result variables come first, then type, qualifier, destination.
 pub record Execute : Type 0 where
@@ -101,49 +100,49 @@ fills (done p) = true
 fills (past p) = false
 fills (tlv tag at start stop rest) = fills rest
 
-unfoldable pub first_of : Tlvs → Head
-first_of (done p) = Past
-first_of (past p) = Past
-first_of (tlv tag at start stop rest) = Tlv tag start stop
+unfoldable pub first_of : Tlvs → Option Tlv
+first_of (done p) = None
+first_of (past p) = None
+first_of (tlv tag at start stop rest) = some_tlv tag start stop
 
 -- the first Result TLV ('03' or '83') that is not empty, and the TLV after it
-unfoldable pub result_in : List ℕ → Tlvs → Reply
-result_in r (done p) = Malformed
-result_in r (past p) = Malformed
+unfoldable pub result_in : List ℕ → Tlvs → Option Reply
+result_in r (done p) = None
+result_in r (past p) = None
 result_in r (tlv tag at start stop rest) =
-    cond (eqb (plain tag) 0x03) (cond (ltb start stop) (Result (get_or r start 0) (first_of rest)) (result_in r rest)) (result_in r rest)
+    cond (eqb (plain tag) 0x03) (cond (ltb start stop) (some_reply (get_or r start 0) (first_of rest)) (result_in r rest)) (result_in r rest)
 
-unfoldable pub reply : List ℕ → Reply
+unfoldable pub reply : List ℕ → Option Reply
 reply r =
-    cond (eqb (length r) 0) Malformed
-    (cond (ltb 255 (length r)) Malformed
-    (cond (fills (tlvs 0 r 0 (length r))) (result_in r (tlvs 0 r 0 (length r))) Malformed))
+    cond (eqb (length r) 0) None
+    (cond (ltb 255 (length r)) None
+    (cond (fills (tlvs 0 r 0 (length r))) (result_in r (tlvs 0 r 0 (length r))) None))
 
 -- the type that a Text String's DCS gives: packed, unpacked, UCS2, or unknown
 unfoldable pub text_type : ℕ → ℕ
 text_type dcs = cond (eqb dcs 0x00) 2 (cond (eqb dcs 0x04) 1 (cond (eqb dcs 0x08) 4 0))
 
 -- 8.7.5.2: the TLV after the result; of a Text String ('0D' or '8D') the DCS goes and gives the type
-unfoldable pub optimised : List ℕ → Head → Slot
-optimised r (Tlv tag start stop) =
-    cond (eqb (plain tag) 0x0D)
-    (cond (ltb start stop) (held (text_type (get_or r start 0)) (part r (start + 1) stop)) (held 0 []))
-    (held 0 (part r start stop))
-optimised r Past = held 0 []
+unfoldable pub optimised : List ℕ → Option Tlv → Slot
+optimised r (Some h) =
+    cond (eqb (plain h.tag) 0x0D)
+    (cond (ltb h.start h.stop) (held (text_type (get_or r h.start 0)) (part r (h.start + 1) h.stop)) (held 0 []))
+    (held 0 (part r h.start h.stop))
+optimised r None = held 0 []
 
 -- 8.7.5.1, 8.7.5.2
-unfoldable pub output : List ℕ → Execute → Head → Slot
+unfoldable pub output : List ℕ → Execute → Option Tlv → Slot
 output r x after = cond (optimises x) (optimised r after) (held 0 r)
 
 unfoldable pub write_slot : Card → ℕ → Slot → Written
 write_slot c n free = wrote c
 write_slot c n (held type bytes) = write c n type bytes
 
-unfoldable pub then_output : List ℕ → Execute → Head → Written → Written
+unfoldable pub then_output : List ℕ → Execute → Option Tlv → Written → Written
 then_output r x after (wrote c) = cond (has_output x) (write_slot c (output_number c.run.page x) (output r x after)) (wrote c)
 then_output r x after no_room = no_room
 
 -- the general result, then the output: both are written or neither (House)
-unfoldable pub results : Card → Execute → ℕ → List ℕ → Head → Written
+unfoldable pub results : Card → Execute → ℕ → List ℕ → Option Tlv → Written
 results c x g r after =
     then_output r x after (cond (has_general x) (write c (general_number c.run.page x) 0 (g ∷ [])) (wrote c))

@@ -1,5 +1,5 @@
 -- What each of the classes 4 to 7 asks of one TLV.
-use Rattle.std.specs.Prelude.{ℕ, ◌+◌, ◌-◌, ◌*◌, ◌/◌, ◌%◌, Bool, true, false, cond, List, [], ◌∷◌, ltb, leb, eqb}
+use Rattle.std.specs.Prelude.{ℕ, ◌+◌, ◌-◌, ◌*◌, ◌/◌, ◌%◌, Bool, true, false, cond, List, [], ◌∷◌, ltb, leb, eqb, Option, Some, None}
 use Rattle.rules.specs.Bytes.{part, among}
 use Rattle.rules.specs.Tlv.{head_at}
 use Rattle.rules.specs.Tlvs.{Tlvs, done, past, tlv, tlvs, plain, count}
@@ -8,17 +8,15 @@ use Rattle.rules.specs.Grammar.{Entry, entry, misplaced, beyond, unit_kind}
 use Rattle.rules.specs.Shape.{attribute, number_in, body_of}
 use Rattle.rules.specs.Page.{page_row, anchor_in, holds}
 use Rattle.rules.specs.Reference.{mark}
-use Rattle.rules.specs.declared.Head.{Head}
-use Rattle.rules.specs.declared.Head.TheVariants.{Tlv, Past}
-use Rattle.rules.specs.declared.Spot.{Spot}
-use Rattle.rules.specs.declared.Spot.TheVariants.{After, Cut}
 use Rattle.rules.specs.declared.Body.{Body}
 use Rattle.rules.specs.declared.Body.TheVariants.{Inner, Leaf, Short}
+use Rattle.rules.specs.declared.Tlv.{Tlv}
+use Rattle.rules.specs.Built.{some_tlv}
 
 -- Class 4: an anchor reference with no '23', or that is '23' alone.
-unfoldable pub bad_reference : ℕ → Spot → Bool
-bad_reference size (After n) = eqb size 1
-bad_reference size Cut = true
+unfoldable pub bad_reference : ℕ → Option ℕ → Bool
+bad_reference size (Some n) = eqb size 1
+bad_reference size None = true
 
 -- Class 4: a TLV out of its place, or a bad anchor reference.
 unfoldable pub out_of_place : List ℕ → ℕ → ℕ → ℕ → ℕ → ℕ → Bool
@@ -31,11 +29,11 @@ taken_in s name place (done p) = false
 taken_in s name place (past p) = false
 taken_in s name place (tlv tag at start stop rest) =
     cond (ltb place stop) false
-    (cond (eqb (plain tag) 0x0A) (cond (holds s name (anchor_in s (Tlv tag start stop))) true (taken_in s name place rest)) (taken_in s name place rest))
+    (cond (eqb (plain tag) 0x0A) (cond (holds s name (anchor_in s (some_tlv tag start stop))) true (taken_in s name place rest)) (taken_in s name place rest))
 
-unfoldable pub is_marked : Spot → Bool
-is_marked (After n) = true
-is_marked Cut = false
+unfoldable pub is_marked : Option ℕ → Bool
+is_marked (Some n) = true
+is_marked None = false
 
 -- Class 5: an anchor with '23', or equal to an earlier one.
 unfoldable pub bad_anchor : List ℕ → ℕ → ℕ → ℕ → ℕ → Bool
@@ -58,9 +56,9 @@ unfoldable pub out_of_size : ℕ → ℕ → Bool
 out_of_size limit size = cond (eqb limit 0) false (cond (ltb size (limit / 64)) true (ltb (limit % 64) size))
 
 -- Class 6: the page part or the anchor part of a reference is over 32 bytes.
-unfoldable pub long_reference : ℕ → Spot → Bool
-long_reference size (After n) = cond (ltb 32 n) true (ltb 32 (size - (n + 1)))
-long_reference size Cut = false
+unfoldable pub long_reference : ℕ → Option ℕ → Bool
+long_reference size (Some n) = cond (ltb 32 n) true (ltb 32 (size - (n + 1)))
+long_reference size None = false
 
 -- Class 6: more than 64 elements in the pool, or one over 255 bytes; n are passed already.
 unfoldable pub big_pool : ℕ → Pieces → Bool
@@ -86,9 +84,9 @@ too_big s within from at tag start stop =
     (crowded s within from at tag)))
 
 -- Class 7: a page reference that begins as one does, and does not hold just one anchor reference.
-unfoldable pub odd_head : ℕ → Head → Bool
-odd_head stop (Tlv t start p) = cond (eqb t 0x0C) (ltb p stop) (among (0x0D ∷ 0x13 ∷ 0x93 ∷ []) t)
-odd_head stop Past = false
+unfoldable pub odd_head : ℕ → Option Tlv → Bool
+odd_head stop (Some h) = cond (eqb h.tag 0x0C) (ltb h.stop stop) (among (0x0D ∷ 0x13 ∷ 0x93 ∷ []) h.tag)
+odd_head stop None = false
 
 -- Class 7: a modifier of another type than Replace (7.1.8.1), or with several actions.
 unfoldable pub several : List ℕ → ℕ → Body → Bool

@@ -1,21 +1,21 @@
 -- The terminal response handler (clauses 4.3 and 7.1.8): modifiers in force, their search, and the default configuration.
-use Rattle.std.specs.Prelude.{ℕ, ◌+◌, Bool, false, cond, List, get_or, ltb, leb, eqb}
+use Rattle.std.specs.Prelude.{ℕ, ◌+◌, Bool, false, cond, List, get_or, ltb, leb, eqb, Option, Some, None}
 use Rattle.rules.specs.Tlv.{head_at}
 use Rattle.rules.specs.Tlvs.{Tlvs, done, past, tlv, tlvs, plain}
 use Rattle.rules.specs.Page.{content_at, page_row, unit_row}
-use Rattle.rules.specs.declared.Head.{Head}
-use Rattle.rules.specs.declared.Head.TheVariants.{Tlv, Past}
 use Rattle.rules.specs.declared.Action.{Action}
 use Rattle.rules.specs.declared.Action.TheVariants.{Pass, Next, Quit, Back, Retry, Go}
+use Rattle.rules.specs.declared.Tlv.{Tlv}
+use Rattle.rules.specs.Built.{some_tlv}
 
 -- 7.9: the anchor reference that a TLV is or, as a page reference, holds; a TLV that is neither leads nowhere
-unfoldable pub go_to : Head → Action
-go_to (Tlv tag start stop) = cond (eqb tag 0x0C) (Go start stop) Pass
-go_to Past = Pass
+unfoldable pub go_to : Option Tlv → Action
+go_to (Some h) = cond (eqb h.tag 0x0C) (Go h.start h.stop) Pass
+go_to None = Pass
 
-unfoldable pub branch_by : List ℕ → Head → Action
-branch_by s (Tlv tag start stop) = cond (eqb tag 0x12) (go_to (head_at s start stop)) (go_to (Tlv tag start stop))
-branch_by s Past = Pass
+unfoldable pub branch_by : List ℕ → Option Tlv → Action
+branch_by s (Some h) = cond (eqb h.tag 0x12) (go_to (head_at s h.start h.stop)) (go_to (some_tlv h.tag h.start h.stop))
+branch_by s None = Pass
 
 -- 7.1.8.4.2: the action of an ID. '04' to '1F' are reserved: such a modifier changes nothing (7.1.8).
 unfoldable pub action_by : List ℕ → ℕ → ℕ → ℕ → Action

@@ -1,5 +1,5 @@
 -- What number 35 tests: that the state handed in is a card.
-use Rattle.std.specs.Prelude.{ℕ, ◌+◌, ◌-◌, Bool, true, false, cond, List, [], ◌∷◌, length, ltb, leb, eqb}
+use Rattle.std.specs.Prelude.{ℕ, ◌+◌, ◌-◌, Bool, true, false, cond, List, [], ◌∷◌, length, ltb, leb, eqb, Option, Some, None, Result, Ok, Err}
 use Rattle.rules.specs.Page.{unit_count, is_place}
 use Rattle.rules.specs.Reference.{mark}
 use Rattle.rules.specs.Loader.{judge}
@@ -8,14 +8,10 @@ use Rattle.rules.specs.Store.{is_record, room, record_room, longest, room_limit}
 use Rattle.rules.specs.Trail.{depth}
 use Rattle.rules.specs.Command.{execute_of, result_complaint}
 use Rattle.rules.specs.Step.{ByteCode, setting_variables, going_back, branching, exiting, executing, getting_length, unknown, byte_code, here}
-use Rattle.rules.specs.declared.Head.{Head}
-use Rattle.rules.specs.declared.Head.TheVariants.{Tlv, Past}
-use Rattle.rules.specs.declared.Spot.{Spot}
-use Rattle.rules.specs.declared.Spot.TheVariants.{After, Cut}
-use Rattle.rules.specs.declared.Judged.{Judged}
-use Rattle.rules.specs.declared.Judged.TheVariants.{Accepted, Rejected}
 use Rattle.rules.specs.declared.Complaint.{Complaint}
 use Rattle.rules.specs.declared.Complaint.TheVariants.{Nothing, Undefined, Secured, Misused}
+use Rattle.rules.specs.declared.Tlv.{Tlv}
+use Rattle.rules.specs.declared.Rejection.{Rejection}
 
 unfoldable pub within : ℕ → ℕ → ℕ → Bool
 within least most n = cond (leb least n) (leb n most) false
@@ -48,9 +44,9 @@ records_fine [] = true
 records_fine (r ∷ rs) = cond (record_fine r) (cond (repeats r rs) false (records_fine rs)) false
 
 -- an entry of the history: 1 to 32 bytes, '23', and 1 to 32 bytes without '23'
-unfoldable pub entry_by : ℕ → Spot → Bool
-entry_by size (After n) = cond (within 1 32 n) (within 1 32 (size - (n + 1))) false
-entry_by size Cut = false
+unfoldable pub entry_by : ℕ → Option ℕ → Bool
+entry_by size (Some n) = cond (within 1 32 n) (within 1 32 (size - (n + 1))) false
+entry_by size None = false
 
 unfoldable pub entries_fine : List (List ℕ) → Bool
 entries_fine [] = true
@@ -67,9 +63,9 @@ unfoldable pub is_open : Guard → Bool
 is_open unlocked = true
 is_open (locked word) = false
 
-unfoldable pub is_accepted : Judged → Bool
-is_accepted Accepted = true
-is_accepted (Rejected class at) = false
+unfoldable pub is_accepted : Result (Unit {0}) Rejection → Bool
+is_accepted (Ok u) = true
+is_accepted (Err e) = false
 
 unfoldable pub complaint_free : Complaint → Bool
 complaint_free Nothing = true
@@ -87,9 +83,9 @@ sends_by c tag start stop executing = complaint_free (result_complaint c (execut
 sends_by c tag start stop getting_length = false
 sends_by c tag start stop unknown = false
 
-unfoldable pub sends : Card → Head → Bool
-sends c (Tlv tag start stop) = sends_by c tag start stop (byte_code tag)
-sends c Past = false
+unfoldable pub sends : Card → Option Tlv → Bool
+sends c (Some h) = sends_by c h.tag h.start h.stop (byte_code h.tag)
+sends c None = false
 
 unfoldable pub hand_fine : Card → Hand → Bool
 hand_fine c empty = true

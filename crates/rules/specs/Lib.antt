@@ -1,3 +1,4 @@
+pub mod Built
 pub mod Bytes
 pub mod Numbers
 pub mod Tlv

@@ -1,16 +1,13 @@
 -- The numbers of document 01's table: which answer has which, what each leaves, and the code of clause 12.3 for variable '05'.
-use Rattle.std.specs.Prelude.{ℕ, cond, List, [], ◌∷◌, eqb}
+use Rattle.std.specs.Prelude.{ℕ, cond, List, [], ◌∷◌, eqb, Result, Ok, Err}
 use Rattle.rules.specs.Bytes.{among, hex}
 use Rattle.rules.specs.declared.Refusal.{Refusal}
 use Rattle.rules.specs.declared.Refusal.TheVariants.{Syntax, Variable, Anchor, Memory, Security, Disallowed, Buffer, Call, Response, State}
 use Rattle.rules.specs.declared.Outcome.{Outcome}
 use Rattle.rules.specs.declared.Outcome.TheVariants.{On, Command, Page, Ended, Refused}
-use Rattle.rules.specs.declared.Judged.{Judged}
-use Rattle.rules.specs.declared.Judged.TheVariants.{Accepted, Rejected}
-use Rattle.rules.specs.declared.Loaded.{Loaded}
-use Rattle.rules.specs.declared.Loaded.TheVariants.{Started, Faulty, Unloaded}
-use Rattle.rules.specs.declared.Told.{Told}
-use Rattle.rules.specs.declared.Told.TheVariants.{Done, Undone}
+use Rattle.rules.specs.declared.Rejection.{Rejection}
+use Rattle.rules.specs.declared.LoadError.{LoadError}
+use Rattle.rules.specs.declared.LoadError.TheVariants.{Faulty, Unloaded}
 
 -- the number of each refusal; 'reference to undefined' is one number for a variable and for an anchor
 unfoldable pub number : Refusal → ℕ
@@ -26,14 +23,14 @@ number Response = 34
 number State = 35
 
 -- the number that each answer has
-unfoldable pub judged_number : Judged → ℕ
-judged_number Accepted = 0
-judged_number (Rejected class at) = class
+unfoldable pub judged_number : Result (Unit {0}) Rejection → ℕ
+judged_number (Ok u) = 0
+judged_number (Err e) = e.class
 
-unfoldable pub loaded_number : Loaded → ℕ
-loaded_number Started = 0
-loaded_number (Faulty class at) = class
-loaded_number (Unloaded r) = number r
+unfoldable pub loaded_number : Result (Unit {0}) LoadError → ℕ
+loaded_number (Ok u) = 0
+loaded_number (Err (Faulty e)) = e.class
+loaded_number (Err (Unloaded r)) = number r
 
 unfoldable pub outcome_number : Outcome → ℕ
 outcome_number On = 0
@@ -42,15 +39,15 @@ outcome_number Page = 0
 outcome_number Ended = 0
 outcome_number (Refused r) = number r
 
-unfoldable pub told_number : Told → ℕ
-told_number Done = 0
-told_number (Undone r) = number r
+unfoldable pub told_number : Result (Unit {0}) Refusal → ℕ
+told_number (Ok u) = 0
+told_number (Err r) = number r
 
 -- the offset that a load's answer carries
-unfoldable pub offset : Loaded → ℕ
-offset Started = 0
-offset (Faulty class at) = at
-offset (Unloaded r) = 0
+unfoldable pub offset : Result (Unit {0}) LoadError → ℕ
+offset (Ok u) = 0
+offset (Err (Faulty e)) = e.place
+offset (Err (Unloaded r)) = 0
 
 -- what a number leaves: the new state, all as it was (K), or the page ended (E)
 pub data Leaves : Type 0 where

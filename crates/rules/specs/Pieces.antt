@@ -1,8 +1,6 @@
 -- Length-value pairs and substitution pairs (clauses 6.3 and 7.1.7).
-use Rattle.std.specs.Prelude.{ℕ, zero, suc, ◌+◌, ◌-◌, Bool, true, false, cond, List, [], ◌∷◌, get_or, ltb, leb}
+use Rattle.std.specs.Prelude.{ℕ, zero, suc, ◌+◌, ◌-◌, Bool, true, false, cond, List, [], ◌∷◌, get_or, ltb, leb, Option, Some, None}
 use Rattle.rules.specs.Tlv.{length_at}
-use Rattle.rules.specs.declared.Length.{Length}
-use Rattle.rules.specs.declared.Length.TheVariants.{Got, Bad}
 use Rattle.rules.specs.declared.Pair.{Pair}
 use Rattle.rules.specs.declared.Pair.TheVariants.{Text, Number, Broken}
 
@@ -10,9 +8,9 @@ use Rattle.rules.specs.declared.Pair.TheVariants.{Text, Number, Broken}
 unfoldable pub indicates : Bool → ℕ → Bool
 indicates substituted b = cond substituted (cond (ltb b 0xC0) false (ltb b 0xC8)) false
 
-unfoldable pub text_of : ℕ → Length → Pair
-text_of end (Got n from) = cond (ltb (end - from) n) Broken (Text from (from + n))
-text_of end Bad = Broken
+unfoldable pub text_of : ℕ → Option (ℕ × ℕ) → Pair
+text_of end (Some p) = cond (ltb (end - p.1) p.0) Broken (Text p.1 (p.1 + p.0))
+text_of end None = Broken
 
 -- the pair at a place, before an end: an indicator and a number, or a length and as many bytes
 unfoldable pub pair_at : Bool → List ℕ → ℕ → ℕ → Pair

@@ -1,10 +1,8 @@
 -- What a tag says of its value: attributes, fixed bytes, and then TLVs, pairs or data (clauses 5.2, 5.3, 7 and 8).
-use Rattle.std.specs.Prelude.{ℕ, zero, suc, ◌+◌, ◌-◌, ◌*◌, ◌/◌, ◌%◌, cond, List, [], ◌∷◌, get_or, ltb, leb, eqb}
+use Rattle.std.specs.Prelude.{ℕ, zero, suc, ◌+◌, ◌-◌, ◌*◌, ◌/◌, ◌%◌, cond, List, [], ◌∷◌, get_or, ltb, leb, eqb, Option, Some, None}
 use Rattle.rules.specs.Bytes.{among}
 use Rattle.rules.specs.Pieces.{pieces, filled}
 use Rattle.rules.specs.Grammar.{Entry, entry, modifiers, actions, units, unjudged, page_kind, unit_kind, modifier_kind, action_kind, system_kind, setting_kind, back_kind, branch_kind, case_kind, reference_kind, exit_kind, length_kind, command_kind}
-use Rattle.rules.specs.declared.Spot.{Spot}
-use Rattle.rules.specs.declared.Spot.TheVariants.{After, Cut}
 use Rattle.rules.specs.declared.Body.{Body}
 use Rattle.rules.specs.declared.Body.TheVariants.{Inner, Leaf, Short}
 
@@ -74,13 +72,13 @@ unfoldable pub kind_of : ℕ → ℕ
 kind_of shape = shape / 64
 
 -- 5.3: the place after the attribute bytes, of n bytes that are left. Each but the last has its high bit set.
-unfoldable pub attributes_in : ℕ → List ℕ → ℕ → Spot
-attributes_in zero s at = Cut
-attributes_in (suc n) s at = cond (ltb (get_or s at 0) 0x80) (After (at + 1)) (attributes_in n s (at + 1))
+unfoldable pub attributes_in : ℕ → List ℕ → ℕ → Option ℕ
+attributes_in zero s at = None
+attributes_in (suc n) s at = cond (ltb (get_or s at 0) 0x80) (Some (at + 1)) (attributes_in n s (at + 1))
 
 -- 5.1: a tag below '80' has no attribute bytes
-unfoldable pub attributes_end : List ℕ → ℕ → ℕ → ℕ → Spot
-attributes_end s tag start stop = cond (ltb tag 0x80) (After start) (attributes_in (stop - start) s start)
+unfoldable pub attributes_end : List ℕ → ℕ → ℕ → ℕ → Option ℕ
+attributes_end s tag start stop = cond (ltb tag 0x80) (Some start) (attributes_in (stop - start) s start)
 
 -- 5.2: the first attribute byte; a missing one counts as 0, and further ones are not looked at
 unfoldable pub attribute : List ℕ → ℕ → ℕ → ℕ → ℕ
@@ -105,9 +103,9 @@ contents s kind follows at from stop =
 unfoldable pub value_at : List ℕ → ℕ → ℕ → ℕ → ℕ → Body
 value_at s shape fixed at stop = cond (ltb (stop - at) fixed) Short (contents s (kind_of shape) (follows_of shape) at (at + fixed) stop)
 
-unfoldable pub after_attributes : List ℕ → ℕ → ℕ → ℕ → Spot → Body
-after_attributes s shape a stop (After p) = value_at s shape (fixed_of shape + added (follows_of shape) a) p stop
-after_attributes s shape a stop Cut = Short
+unfoldable pub after_attributes : List ℕ → ℕ → ℕ → ℕ → Option ℕ → Body
+after_attributes s shape a stop (Some p) = value_at s shape (fixed_of shape + added (follows_of shape) a) p stop
+after_attributes s shape a stop None = Short
 
 -- 8.7.3: the Simple TLV Indicator '00' inside '46': the result tag, then substitution pairs
 abbrev pub indicator_shape : ℕ

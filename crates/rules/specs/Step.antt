@@ -1,5 +1,5 @@
 -- One step (clause 8), in two parts: what the byte code asks, and what is then done.
-use Rattle.std.specs.Prelude.{ℕ, ◌+◌, ◌-◌, ◌%◌, Bool, true, false, cond, List, [], ◌∷◌, length, get_or, set, ltb, eqb}
+use Rattle.std.specs.Prelude.{ℕ, ◌+◌, ◌-◌, ◌%◌, Bool, true, false, cond, List, [], ◌∷◌, length, get_or, set, ltb, eqb, Option, Some, None}
 use Rattle.rules.specs.Bytes.{same, part}
 use Rattle.rules.specs.Numbers.{code, no_error}
 use Rattle.rules.specs.Tlv.{head_at}
@@ -15,8 +15,6 @@ use Rattle.rules.specs.Value.{pieces_of, complaint, joined, type_for, shortest}
 use Rattle.rules.specs.Keep.{rested}
 use Rattle.rules.specs.Trail.{left, last, lowered}
 use Rattle.rules.specs.Command.{Execute, execute_of, execute_complaint, allowed, command, results}
-use Rattle.rules.specs.declared.Head.{Head}
-use Rattle.rules.specs.declared.Head.TheVariants.{Tlv, Past}
 use Rattle.rules.specs.declared.Target.{Target}
 use Rattle.rules.specs.declared.Target.TheVariants.{Unit, Lacking, Other}
 use Rattle.rules.specs.declared.Action.{Action}
@@ -29,6 +27,7 @@ use Rattle.rules.specs.declared.Refusal.{Refusal}
 use Rattle.rules.specs.declared.Refusal.TheVariants.{Syntax, Variable, Anchor, Memory, Security, Disallowed}
 use Rattle.rules.specs.declared.Outcome.{Outcome}
 use Rattle.rules.specs.declared.Outcome.TheVariants.{On, Command, Page, Ended, Refused}
+use Rattle.rules.specs.declared.Tlv.{Tlv}
 
 -- where a byte code leads: to a place of its unit, to a unit of its page, to another page, back, to the terminal, or to the page's end
 pub data Move : Type 0 where
@@ -104,9 +103,9 @@ set_variable c start stop =
     unless (setting_complaint c [] row) (storing (onwards stop) (set_all row c))
 
 -- 8.9 Get Length: the length of all contents together, in BER form and binary
-unfoldable pub list_at : Card → Head → Pieces
-list_at c (Tlv tag start stop) = named (part c.run.page start stop)
-list_at c Past = full
+unfoldable pub list_at : Card → Option Tlv → Pieces
+list_at c (Some h) = named (part c.run.page h.start h.stop)
+list_at c None = full
 
 unfoldable pub get_length : Card → ℕ → ℕ → Plan
 get_length c start stop =
@@ -126,10 +125,10 @@ secured_in id (text from to rest) = secured_in id rest
 secured_in id (variable n rest) = worse (unserved id (area n)) (secured_in id rest)
 
 -- 16 where a case's list is empty, else 19
-unfoldable pub case_complaint : List ℕ → Head → Complaint
-case_complaint s (Tlv tag start stop) =
-    cond (eqb tag 0x0D) (cond (ltb start stop) (secured_in (service s) (case_value s tag start stop)) Misused) (secured_in (service s) (case_value s tag start stop))
-case_complaint s Past = Nothing
+unfoldable pub case_complaint : List ℕ → Option Tlv → Complaint
+case_complaint s (Some h) =
+    cond (eqb h.tag 0x0D) (cond (ltb h.start h.stop) (secured_in (service s) (case_value s h.tag h.start h.stop)) Misused) (secured_in (service s) (case_value s h.tag h.start h.stop))
+case_complaint s None = Nothing
 
 -- over the whole byte code
 unfoldable pub cases_complaint : List ℕ → Tlvs → Complaint
@@ -139,13 +138,13 @@ cases_complaint s (tlv tag at start stop rest) =
     worse (cond (eqb tag 0x11) (case_complaint s (head_at s start stop)) Nothing) (cases_complaint s rest)
 
 -- 7.9: the anchor reference in a page reference
-unfoldable pub follow : Head → Choice
-follow (Tlv tag start stop) = Follow start stop
-follow Past = Stay
+unfoldable pub follow : Option Tlv → Choice
+follow (Some h) = Follow h.start h.stop
+follow None = Stay
 
-unfoldable pub follow_in : List ℕ → Head → Choice
-follow_in s (Tlv tag start stop) = follow (head_at s start stop)
-follow_in s Past = Stay
+unfoldable pub follow_in : List ℕ → Option Tlv → Choice
+follow_in s (Some h) = follow (head_at s h.start h.stop)
+follow_in s None = Stay
 
 unfoldable pub is_undefined : Complaint → Bool
 is_undefined Nothing = false
@@ -154,12 +153,12 @@ is_undefined Secured = false
 is_undefined Misused = false
 
 -- a case matches where its value equals the variable's in length and bytes; `stop` is the case's end, and its page reference stands last
-unfoldable pub case_choice : Card → List ℕ → ℕ → Choice → Head → Choice
-case_choice c bytes stop rest (Tlv tag from to) =
-    let value = case_value c.run.page tag from to in
+unfoldable pub case_choice : Card → List ℕ → ℕ → Choice → Option Tlv → Choice
+case_choice c bytes stop rest (Some h) =
+    let value = case_value c.run.page h.tag h.start h.stop in
     cond (is_undefined (complaint c [] value)) Unknown
-    (cond (same (joined c value) bytes) (follow_in c.run.page (head_at c.run.page to stop)) rest)
-case_choice c bytes stop rest Past = rest
+    (cond (same (joined c value) bytes) (follow_in c.run.page (head_at c.run.page h.stop stop)) rest)
+case_choice c bytes stop rest None = rest
 
 -- the first match, or the page reference behind the cases, or no branch
 unfoldable pub choose : Card → List ℕ → Tlvs → Choice
@@ -226,12 +225,12 @@ plan_by c tag start stop executing = execute c (execute_of c.run.page tag start 
 plan_by c tag start stop getting_length = get_length c start stop
 plan_by c tag start stop unknown = refuses Syntax
 
-unfoldable pub plan_for : Card → Head → Plan
-plan_for c (Tlv tag start stop) = plan_by c tag start stop (byte_code tag)
-plan_for c Past = runs_out
+unfoldable pub plan_for : Card → Option Tlv → Plan
+plan_for c (Some h) = plan_by c h.tag h.start h.stop (byte_code h.tag)
+plan_for c None = runs_out
 
 -- the byte code at the card's place
-unfoldable pub here : Card → Head
+unfoldable pub here : Card → Option Tlv
 here c = code_at c.run.page c.run.unit c.run.place
 
 unfoldable pub decide : Card → Plan
@@ -243,13 +242,13 @@ with_results w (refuses r) = refuses r
 with_results w (does c m) = storing m w
 with_results w runs_out = runs_out
 
-unfoldable pub answer_by : Card → Execute → ℕ → List ℕ → Head → Plan
+unfoldable pub answer_by : Card → Execute → ℕ → List ℕ → Option Tlv → Plan
 answer_by c x g r after =
     with_results (results c x g r after) (perform c x.stop (send (in_hand c.run.hand)) (handle c.run.page c.run.unit g))
 
-unfoldable pub answer_for : Card → ℕ → List ℕ → Head → Head → Plan
-answer_for c g r after (Tlv tag start stop) = answer_by c (execute_of c.run.page tag start stop) g r after
-answer_for c g r after Past = runs_out
+unfoldable pub answer_for : Card → ℕ → List ℕ → Option Tlv → Option Tlv → Plan
+answer_for c g r after (Some h) = answer_by c (execute_of c.run.page h.tag h.start h.stop) g r after
+answer_for c g r after None = runs_out
 
 -- what a step or a response comes to
 pub record Effect : Type 0 where
@@ -313,5 +312,5 @@ applied c runs_out = effect Ended (rested c)
 unfoldable pub stepped : Card → Effect
 stepped c = applied c (decide c)
 
-unfoldable pub answered : Card → ℕ → List ℕ → Head → Effect
+unfoldable pub answered : Card → ℕ → List ℕ → Option Tlv → Effect
 answered c g r after = applied c (answer_for c g r after (here c))

@@ -1,12 +1,11 @@
 -- Variables (clause 6): who may read and write which, where they are kept, and the room that they take.
-use Rattle.std.specs.Prelude.{ℕ, ◌+◌, ◌-◌, Bool, true, false, cond, List, [], ◌∷◌, length, get_or, set, ltb, eqb}
+use Rattle.std.specs.Prelude.{ℕ, ◌+◌, ◌-◌, Bool, true, false, cond, List, [], ◌∷◌, length, get_or, set, ltb, eqb, Option, Some, None}
 use Rattle.rules.specs.Bytes.{same, part}
 use Rattle.rules.specs.Page.{service, page_type, element}
 use Rattle.rules.specs.Card.{Slot, free, held, Record, none, stored, Card, with_temporary, with_permanent}
-use Rattle.rules.specs.declared.Part.{Part}
-use Rattle.rules.specs.declared.Part.TheVariants.{Held, Missing}
 use Rattle.rules.specs.declared.Complaint.{Complaint}
 use Rattle.rules.specs.declared.Complaint.TheVariants.{Nothing, Undefined, Secured, Misused}
+use Rattle.rules.specs.declared.Span.{Span}
 
 -- 6.1: the two high bits of a number name its area
 pub data Area : Type 0 where
@@ -49,9 +48,9 @@ unfoldable pub look_for : List ℕ → ℕ → List Record → Slot
 look_for id n rs = value_of (get_or rs (record_from 0 id n rs) none)
 
 -- 6.1.4: an element of the string pool has the page's type
-unfoldable pub string_of : List ℕ → Part → Slot
-string_of s (Held from to) = held (page_type s) (part s from to)
-string_of s Missing = free
+unfoldable pub string_of : List ℕ → Option Span → Slot
+string_of s (Some p) = held (page_type s) (part s p.from p.end)
+string_of s None = free
 
 unfoldable pub read_in : Area → Card → ℕ → Slot
 read_in environmental c n = get_or c.environment n free

@@ -1,8 +1,7 @@
 -- The row of TLVs of a container. Before each of them stand `gap` bytes that are no TLV: the number in '40' (8.1), else none.
-use Rattle.std.specs.Prelude.{ℕ, zero, suc, ◌+◌, ◌-◌, ◌%◌, cond, List, leb, eqb}
+use Rattle.std.specs.Prelude.{ℕ, zero, suc, ◌+◌, ◌-◌, ◌%◌, cond, List, leb, eqb, Option, Some, None}
 use Rattle.rules.specs.Tlv.{head_at}
-use Rattle.rules.specs.declared.Head.{Head}
-use Rattle.rules.specs.declared.Head.TheVariants.{Tlv, Past}
+use Rattle.rules.specs.declared.Tlv.{Tlv}
 
 -- TLVs one after another, each with its tag, its place, and where its value starts and stops. The row is done where no further TLV can begin,
 -- or ends at the place of a TLV that runs past the container.
@@ -12,9 +11,9 @@ pub data Tlvs : Type 0 where
   tlv : (tag at start stop : ℕ) → Tlvs → Tlvs
 
 -- the row that starts with a TLV and goes on from its end
-unfoldable pub row : (ℕ → Tlvs) → ℕ → Head → Tlvs
-row rest at (Tlv tag start stop) = tlv tag at start stop (rest stop)
-row rest at Past = past at
+unfoldable pub row : (ℕ → Tlvs) → ℕ → Option Tlv → Tlvs
+row rest at (Some h) = tlv h.tag at h.start h.stop (rest h.stop)
+row rest at None = past at
 
 -- at most n TLVs
 unfoldable pub tlvs_up_to : ℕ → ℕ → List ℕ → ℕ → ℕ → Tlvs

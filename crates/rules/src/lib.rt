@@ -1,29 +1,23 @@
 // The answers that the definitions of specs/ and all code share. There is no code here.
 #![tactic(auto)]
 
-// What a length says and the place after it, or a form other than the three.
-#[derive(Clone, Copy)]
-pub enum Length {
-    Got(usize, usize),
-    Bad,
+// A TLV: its tag, and where its value starts and stops.
+#[derive(Clone, Copy, PartialEq, Eq)]
+pub struct Tlv {
+    pub tag: u8,
+    pub start: usize,
+    pub stop: usize,
 }
 
-// A TLV: its tag, and where its value starts and stops. Past: none that ends inside its container.
-#[derive(Clone, Copy)]
-pub enum Head {
-    Tlv(u8, usize, usize),
-    Past,
-}
-
-// A place that was looked for.
-#[derive(Clone, Copy)]
-pub enum Spot {
-    After(usize),
-    Cut,
+// What stands from a place up to an end.
+#[derive(Clone, Copy, PartialEq, Eq)]
+pub struct Span {
+    pub from: usize,
+    pub end: usize,
 }
 
 // One pair of a value: bytes as they stand, from a place up to another, or a variable's number and the place after it.
-#[derive(Clone, Copy)]
+#[derive(Clone, Copy, PartialEq, Eq)]
 pub enum Pair {
     Text(usize, usize),
     Number(u8, usize),
@@ -31,7 +25,7 @@ pub enum Pair {
 }
 
 // What a value holds: TLVs of a container of some kind, from a place on; data; or less than its tag asks.
-#[derive(Clone, Copy)]
+#[derive(Clone, Copy, PartialEq, Eq)]
 pub enum Body {
     Inner(usize, usize),
     Leaf,
@@ -39,36 +33,22 @@ pub enum Body {
 }
 
 // A TLV as one class of the loader sees it: at fault, passed over, or gone into.
-#[derive(Clone, Copy)]
+#[derive(Clone, Copy, PartialEq, Eq)]
 pub enum Look {
     Fault,
     Over,
     Into(usize, usize),
 }
 
-// The first fault of a class, by its place.
-#[derive(Clone, Copy)]
-pub enum Found {
-    Fine,
-    At(usize),
-}
-
-// The loader's answer: a class from 1 to 7 and an offset where the page is rejected.
-#[derive(Clone, Copy)]
-pub enum Judged {
-    Accepted,
-    Rejected(u8, usize),
-}
-
-// Where the value of a part of a page starts and stops.
-#[derive(Clone, Copy)]
-pub enum Part {
-    Held(usize, usize),
-    Missing,
+// Where the loader rejects a page: a class from 1 to 7, and the place of its first fault.
+#[derive(Clone, Copy, PartialEq, Eq)]
+pub struct Rejection {
+    pub class: u8,
+    pub place: usize,
 }
 
 // What an anchor reference means on a page: one of its units, an anchor that it lacks, or another page.
-#[derive(Clone, Copy)]
+#[derive(Clone, Copy, PartialEq, Eq)]
 pub enum Target {
     Unit(usize),
     Lacking,
@@ -77,7 +57,7 @@ pub enum Target {
 
 // What the handler does: one of the four system actions, or a branch to the reference that stands from a place up to another.
 // Pass: nothing, so that the search goes on.
-#[derive(Clone, Copy)]
+#[derive(Clone, Copy, PartialEq, Eq)]
 pub enum Action {
     Pass,
     Next,
@@ -88,7 +68,7 @@ pub enum Action {
 }
 
 // What the cases of a branch come to: the reference to follow, no branch, or a variable that is undefined.
-#[derive(Clone, Copy)]
+#[derive(Clone, Copy, PartialEq, Eq)]
 pub enum Choice {
     Follow(usize, usize),
     Stay,
@@ -96,7 +76,7 @@ pub enum Choice {
 }
 
 // What is wrong with the numbers that a byte code names, from nothing to the worst.
-#[derive(Clone, Copy)]
+#[derive(Clone, Copy, PartialEq, Eq, PartialOrd, Ord)]
 pub enum Complaint {
     Nothing,
     Undefined,
@@ -104,15 +84,15 @@ pub enum Complaint {
     Misused,
 }
 
-// A response: its general result and the TLV after the result.
-#[derive(Clone, Copy)]
-pub enum Reply {
-    Result(u8, Head),
-    Malformed,
+// A response: its general result, and the TLV after the result where one stands there.
+#[derive(Clone, Copy, PartialEq, Eq)]
+pub struct Reply {
+    pub general: u8,
+    pub after: Option<Tlv>,
 }
 
 // Why a call or a step is refused. Numbers.antt gives the number, what it leaves, and the code for variable '05'.
-#[derive(Clone, Copy)]
+#[derive(Clone, Copy, PartialEq, Eq)]
 pub enum Refusal {
     Syntax,
     Variable,
@@ -127,7 +107,7 @@ pub enum Refusal {
 }
 
 // What a step, a run or a response comes to. A command has the length that it takes in the lent buffer.
-#[derive(Clone, Copy)]
+#[derive(Clone, Copy, PartialEq, Eq)]
 pub enum Outcome {
     On,
     Command(usize),
@@ -136,23 +116,15 @@ pub enum Outcome {
     Refused(Refusal),
 }
 
-// A load's answer: the page runs; the loader's class and offset; or a refusal of the call.
-#[derive(Clone, Copy)]
-pub enum Loaded {
-    Started,
-    Faulty(u8, usize),
+// Why no page was loaded: the loader rejects it, or the call is refused.
+#[derive(Clone, Copy, PartialEq, Eq)]
+pub enum LoadError {
+    Faulty(Rejection),
     Unloaded(Refusal),
 }
 
-// The answer of a creation, an environment write or an end.
-#[derive(Clone, Copy)]
-pub enum Told {
-    Done,
-    Undone(Refusal),
-}
-
 // A step's answer, with the unit and the tag of its byte code: '00' at a unit's end. Both are 0 where no step was taken.
-#[derive(Clone, Copy)]
+#[derive(Clone, Copy, PartialEq, Eq)]
 pub struct Stepped {
     pub outcome: Outcome,
     pub unit: usize,
@@ -160,7 +132,7 @@ pub struct Stepped {
 }
 
 // A run's answer, with the steps that it took.
-#[derive(Clone, Copy)]
+#[derive(Clone, Copy, PartialEq, Eq)]
 pub struct Ran {
     pub outcome: Outcome,
     pub count: usize,

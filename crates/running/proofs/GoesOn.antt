@@ -6,8 +6,6 @@ use mathlib.Core.List.{List}
 use mathlib.Core.Path.{◌≡◌, refl, ◌∙◌}
 use lib.ListN.{length}
 use lib.Dec.{ltb, eqb}
-use Rattle.rules.specs.declared.Head.{Head}
-use Rattle.rules.specs.declared.Head.TheVariants.{Tlv, Past}
 use Rattle.rules.specs.declared.Action.{Action}
 use Rattle.rules.specs.declared.Action.TheVariants.{Pass, Next, Quit, Back, Retry, Go}
 use Rattle.rules.specs.declared.Choice.{Choice}
@@ -28,6 +26,8 @@ use Rattle.rules.specs.Calls.{goes_on}
 use Rattle.variable.specs.View.{bare}
 use Rattle.leaf.proofs.Cases.{both}
 use Rattle.storing.proofs.Lift.{lift, write_lift, set_all_lift}
+use Rattle.std.specs.Prelude.{Option, Some, None}
+use Rattle.rules.specs.declared.Tlv.{Tlv}
 
 -- the card that goes on has the page of the card before it
 abbrev Keeps : Card → Plan → Type 0
@@ -123,10 +123,10 @@ code_keeps c tag start stop executing = execute_keeps c (execute_of c.run.page t
 code_keeps c tag start stop getting_length = unless_keeps c _ _ (rw (write_lift c _ 3 _).0 (storing_keeps c (onwards stop) _))
 code_keeps c tag start stop unknown = tt
 
-plan_keeps : (c : Card) (h : Head) → Keeps c (plan_for c h)
+plan_keeps : (c : Card) (h : Option Tlv) → Keeps c (plan_for c h)
 unfolding plan_for
-plan_keeps c (Tlv tag start stop) = code_keeps c tag start stop (byte_code tag)
-plan_keeps c Past = tt
+plan_keeps c (Some h) = code_keeps c h.tag h.start h.stop (byte_code h.tag)
+plan_keeps c None = tt
 
 pub stepped_on : (c : Card) → goes_on (stepped c).outcome ≡ true → ((stepped c).card.run.page ≡ c.run.page) × (is_empty (stepped c).card.run.hand ≡ true)
 unfolding stepped decide

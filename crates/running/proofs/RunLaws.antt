@@ -9,7 +9,6 @@ use lib.ListN.{length, take}
 use Rattle.pour.specs.Pour.{blank}
 use Rattle.rules.specs.declared.Outcome.{Outcome}
 use Rattle.rules.specs.declared.Outcome.TheVariants.{On as GoneOn, Command}
-use Rattle.rules.specs.declared.Judged.TheVariants.{Accepted}
 use Rattle.rules.specs.Loader.{judge}
 use Rattle.rules.specs.Page.{keep_list, password, bytes_of}
 use Rattle.rules.specs.Card.{Card}
@@ -32,12 +31,13 @@ use Rattle.stepping.specs.declared.Took.TheVariants.{On, Sent, Ends}
 use Rattle.stepping.specs.Took.{Ready, Leads}
 use Rattle.running.specs.Course.{Counts}
 use Rattle.running.proofs.GoesOn.{stepped_on}
+use Rattle.std.specs.Prelude.{Ok}
 
-pub ready_accepted : (m : State) → Ready m → judge (take m.len m.page) ≡ Accepted
+pub ready_accepted : (m : State) → Ready m → judge (take m.len m.page) ≡ Ok tt
 unfolding card run_of page_of
 ready_accepted m r = r.runs.accepted
 
-filled : (s : List ℕ) → judge s ≡ Accepted → length s ≡ 0 → ⊥
+filled : (s : List ℕ) → judge s ≡ Ok tt → length s ≡ 0 → ⊥
 filled [] e z = empty_page e
 filled (x ∷ xs) e z = absurd (omega arith)
 

@@ -3,21 +3,20 @@
 
 ghost use Rattle.std.specs.Prelude.{◌≤◌, length};
 
-use lines::{say, say_number};
-use rules::{Loaded, Outcome, Ran, Refusal, Shown, Stepped, Told};
+use rules::{LoadError, Outcome, Ran, Refusal, Rejection, Shown, Stepped};
 use std::io;
 
-// Bytes in hex, '-' for none.
+// Bytes in hex after a blank, '-' for none.
 fn say_bytes(rt: &impl Print, bytes: &[u8]) -> io::Result<()>
     requires { length bytes.now ≤ 255 }
 {
-    if bytes.len() == 0 {
-        return say(rt, b" -");
+    if bytes.is_empty() {
+        return print!(rt; " -");
     }
     let mut text = [0u8; 510];
     let n = lines::hex(bytes, &mut text);
-    say(rt, b" ")?;
-    say(rt, &text[..n])
+    print!(rt; " ")?;
+    rt.write_all(&text[..n])
 }
 
 // The first n bytes.
@@ -31,28 +30,13 @@ fn say_word(rt: &impl Print, word: &[u8; 66]) -> io::Result<()> {
     say_bytes(rt, word::word_of(word))
 }
 
-fn say_refusal(rt: &impl Print, why: Refusal) -> io::Result<()> {
-    say_number(rt, packing::number(why) as u64)
-}
-
-fn say_told(rt: &impl Print, told: Told) -> io::Result<()> {
-    match told {
-        Told::Done => say(rt, b" 0")?,
-        Told::Undone(why) => say_refusal(rt, why)?,
-    }
-    say(rt, b"\n")
-}
-
 fn say_outcome(rt: &impl Print, outcome: Outcome) -> io::Result<()> {
     match outcome {
-        Outcome::On => say(rt, b" 0 on"),
-        Outcome::Command(n) => say(rt, b" 0 command"),
-        Outcome::Page => say(rt, b" 0 page"),
-        Outcome::Ended => say(rt, b" 0 ended"),
-        Outcome::Refused(why) => {
-            say_refusal(rt, why)?;
-            say(rt, b" refused")
-        }
+        Outcome::On => print!(rt; " 0 on"),
+        Outcome::Command(_) => print!(rt; " 0 command"),
+        Outcome::Page => print!(rt; " 0 page"),
+        Outcome::Ended => print!(rt; " 0 ended"),
+        Outcome::Refused(why) => print!(rt; " {} refused", packing::number(why)),
     }
 }
 
@@ -64,30 +48,26 @@ fn say_carried(
     wanted: &[u8; 66],
 ) -> io::Result<()> {
     match outcome {
-        Outcome::On => say(rt, b" - -\n"),
         Outcome::Command(n) => {
             say_front(rt, out, n)?;
-            say(rt, b" -\n")
+            println!(rt; " -")
         }
         Outcome::Page => {
-            say(rt, b" -")?;
+            print!(rt; " -")?;
             say_word(rt, wanted)?;
-            say(rt, b"\n")
+            println!(rt)
         }
-        Outcome::Ended => say(rt, b" - -\n"),
-        Outcome::Refused(why) => say(rt, b" - -\n"),
+        Outcome::On | Outcome::Ended | Outcome::Refused(_) => println!(rt; " - -"),
     }
 }
 
 // The unit and the tag, where a step was taken.
 fn say_code(rt: &impl Print, stepped: Stepped) -> io::Result<()> {
-    let outcome = stepped.outcome;
-    if !packing::writes(outcome) {
-        return say(rt, b" - -");
+    if !packing::writes(stepped.outcome) {
+        return print!(rt; " - -");
     }
-    say_number(rt, stepped.unit as u64)?;
-    let tag = [stepped.tag];
-    say_bytes(rt, &tag)
+    print!(rt; " {}", stepped.unit)?;
+    say_bytes(rt, &[stepped.tag])
 }
 
 pub fn say_stepped(
@@ -96,19 +76,17 @@ pub fn say_stepped(
     out: &[u8; 255],
     wanted: &[u8; 66],
 ) -> io::Result<()> {
-    let outcome = stepped.outcome;
-    say(rt, b"step")?;
-    say_outcome(rt, outcome)?;
+    print!(rt; "step")?;
+    say_outcome(rt, stepped.outcome)?;
     say_code(rt, stepped)?;
-    say_carried(rt, outcome, out, wanted)
+    say_carried(rt, stepped.outcome, out, wanted)
 }
 
 pub fn say_ran(rt: &impl Print, ran: Ran, out: &[u8; 255], wanted: &[u8; 66]) -> io::Result<()> {
-    let outcome = ran.outcome;
-    say(rt, b"run")?;
-    say_outcome(rt, outcome)?;
-    say_number(rt, ran.count as u64)?;
-    say_carried(rt, outcome, out, wanted)
+    print!(rt; "run")?;
+    say_outcome(rt, ran.outcome)?;
+    print!(rt; " {}", ran.count)?;
+    say_carried(rt, ran.outcome, out, wanted)
 }
 
 pub fn say_responded(
@@ -117,47 +95,40 @@ pub fn say_responded(
     out: &[u8; 255],
     wanted: &[u8; 66],
 ) -> io::Result<()> {
-    say(rt, b"respond")?;
+    print!(rt; "respond")?;
     say_outcome(rt, outcome)?;
     say_carried(rt, outcome, out, wanted)
 }
 
-pub fn say_loaded(rt: &impl Print, loaded: Loaded) -> io::Result<()> {
+pub fn say_loaded(rt: &impl Print, loaded: Result<(), LoadError>) -> io::Result<()> {
     match loaded {
-        Loaded::Started => say(rt, b"load 0 -\n"),
-        Loaded::Faulty(class, offset) => {
-            say(rt, b"load")?;
-            say_number(rt, class as u64)?;
-            say_number(rt, offset as u64)?;
-            say(rt, b"\n")
-        }
-        Loaded::Unloaded(why) => {
-            say(rt, b"load")?;
-            say_refusal(rt, why)?;
-            say(rt, b" -\n")
-        }
+        Ok(()) => println!(rt; "load 0 -"),
+        Err(LoadError::Faulty(Rejection { class, place })) => println!(rt; "load {class} {place}"),
+        Err(LoadError::Unloaded(why)) => println!(rt; "load {} -", packing::number(why)),
     }
 }
 
-pub fn say_ended(rt: &impl Print, told: Told) -> io::Result<()> {
-    say(rt, b"end")?;
-    say_told(rt, told)
+// The name of an environment write or an end, and its answer.
+fn say_told(rt: &impl Print, call: &str, told: Result<(), Refusal>) -> io::Result<()> {
+    match told {
+        Ok(()) => println!(rt; "{call} 0"),
+        Err(why) => println!(rt; "{call} {}", packing::number(why)),
+    }
 }
 
-pub fn say_written(rt: &impl Print, told: Told) -> io::Result<()> {
-    say(rt, b"env")?;
-    say_told(rt, told)
+pub fn say_ended(rt: &impl Print, told: Result<(), Refusal>) -> io::Result<()> {
+    say_told(rt, "end", told)
+}
+
+pub fn say_written(rt: &impl Print, told: Result<(), Refusal>) -> io::Result<()> {
+    say_told(rt, "env", told)
 }
 
 pub fn say_shown(rt: &impl Print, shown: Shown) -> io::Result<()> {
-    say(rt, b"read")?;
-    say_number(rt, shown.number as u64)?;
     if shown.number != 0 {
-        return say(rt, b" - -\n");
+        return println!(rt; "read {} - -", shown.number);
     }
-    say_number(rt, shown.valuetype as u64)?;
-    let length = shown.length;
-    let bytes = shown.bytes;
-    say_front(rt, &bytes, length)?;
-    say(rt, b"\n")
+    print!(rt; "read 0 {}", shown.valuetype)?;
+    say_front(rt, &shown.bytes, shown.length)?;
+    println!(rt)
 }

@@ -8,8 +8,6 @@ use lib.ListN.{length, get_or, set, take}
 use lib.Dec.{eqb}
 use Rattle.rules.specs.declared.Complaint.{Complaint}
 use Rattle.rules.specs.declared.Complaint.TheVariants.{Nothing}
-use Rattle.rules.specs.declared.Head.{Head}
-use Rattle.rules.specs.declared.Head.TheVariants.{Tlv, Past}
 use Rattle.rules.specs.Bytes.{part, among}
 use Rattle.rules.specs.Tlv.{head_at}
 use Rattle.rules.specs.Tlvs.{Tlvs, done, past, tlv, tlvs}
@@ -23,6 +21,8 @@ use Rattle.leaf.proofs.Cases.{both, was}
 use Rattle.variable.specs.View.{seen, view}
 use Rattle.variable.proofs.ComplaintLaws.{worse_nothing, nothing_worse, worse_assoc}
 use Rattle.setting.proofs.RowLaws.{pairs_done, pairs_past, pairs_tlv}
+use Rattle.std.specs.Prelude.{Option, None, Some}
+use Rattle.rules.specs.declared.Tlv.{Tlv}
 
 complaint_same : (c : Card) (k l : List ℕ) → ((n : ℕ) → among k n ≡ among l n) → (ps : Pieces) → complaint c k ps ≡ complaint c l ps
 unfolding complaint
@@ -74,15 +74,15 @@ module _ (page env temp perm : List ℕ) (start stop : ℕ) where
     unfolding setting_complaint
     setting_done h = sym (nothing_worse worst) ∙ (rw (pairs_done page at stop h) at inv)
 
-    module _ (h : 1 < stop - at) (r : Head) (is : r ≡ head_at page (at + 1) stop) where
-      pub setting_past : r ≡ Past → worst ≡ setting_complaint c [] (tlvs 1 page start stop)
+    module _ (h : 1 < stop - at) (r : Option Tlv) (is : r ≡ head_at page (at + 1) stop) where
+      pub setting_past : r ≡ None → worst ≡ setting_complaint c [] (tlvs 1 page start stop)
       unfolding setting_complaint
       setting_past x = sym (nothing_worse worst) ∙ (rw (pairs_past page at stop h (was is x)) at inv)
 
-      pub setting_pair : (tag from to : ℕ) → r ≡ Tlv tag from to → count < length met → (w : Complaint) → w ≡ worse worst (worse (writing_in (service page) (area (get_or page at 0))) (complaint c (part met 0 count) (pieces_of page tag from to))) → worse w (setting_complaint c (take (count + 1) (set met count (get_or page at 0))) (tlvs 1 page to stop)) ≡ setting_complaint c [] (tlvs 1 page start stop)
+      pub setting_pair : (v : Tlv) → r ≡ Some v → count < length met → (w : Complaint) → w ≡ worse worst (worse (writing_in (service page) (area (get_or page at 0))) (complaint c (part met 0 count) (pieces_of page v.tag v.start v.stop))) → worse w (setting_complaint c (take (count + 1) (set met count (get_or page at 0))) (tlvs 1 page v.stop stop)) ≡ setting_complaint c [] (tlvs 1 page start stop)
       unfolding setting_complaint writing number_before view seen
-      setting_pair tag from to x l w f =
+      setting_pair v x l w f =
           let z : at + 1 - 1 ≡ at = omega arith in
-          rw (f, part_start met count) (worse_assoc worst _ _ ∙ (rw (pairs_tlv page at stop h (was is x), z, setting_same c (get_or page at 0 ∷ take count met) (take (count + 1) (set met count (get_or page at 0))) (among_next met count (get_or page at 0) l) (tlvs 1 page to stop)) at inv))
+          rw (f, part_start met count) (worse_assoc worst _ _ ∙ (rw (pairs_tlv page at stop h (was is x), z, setting_same c (get_or page at 0 ∷ take count met) (take (count + 1) (set met count (get_or page at 0))) (among_next met count (get_or page at 0) l) (tlvs 1 page v.stop stop)) at inv))
 
 pub ruleset setting_laws = (setting_start, setting_done, setting_past)

@@ -9,8 +9,6 @@ use lib.ListN.{length, get_or, take, drop}
 use lib.Dec.{ltb}
 use lib.Seq.{take_at}
 use borrow.Author.Tests.{lt-ltb, le-ltb}
-use Rattle.rules.specs.declared.Head.{Head}
-use Rattle.rules.specs.declared.Head.TheVariants.{Tlv, Past}
 use Rattle.rules.specs.Bytes.{part}
 use Rattle.rules.specs.Tlv.{head_at}
 use Rattle.rules.specs.Tlvs.{tlvs}
@@ -30,6 +28,8 @@ use Rattle.leaf.proofs.Cases.{both, tests, was}
 use Rattle.variable.specs.View.{seen, view}
 use Rattle.setting.proofs.ComplaintLaws.{part_start}
 use Rattle.setting.proofs.RowLaws.{pairs_done, pairs_past, pairs_tlv}
+use Rattle.std.specs.Prelude.{Option, None, Some}
+use Rattle.rules.specs.declared.Tlv.{Tlv}
 
 module _ (c : Card) (n ty : ℕ) (b : List ℕ) (size : ℕ) (is : size ≡ length b) where
   pub one_long : 255 < size → write c n ty b ≡ no_room
@@ -79,19 +79,19 @@ module _ (page env temp₀ perm₀ : List ℕ) (start stop : ℕ) where
     unfolding set_all
     all_done h = sym inv ∙ simp (pairs_done page at stop h)
 
-    module _ (h : 1 < stop - at) (r : Head) (is : r ≡ head_at page (at + 1) stop) where
-      pub all_past : r ≡ Past → set_all (tlvs 1 page start stop) (view page env temp₀ perm₀) ≡ wrote (view page env temp perm)
+    module _ (h : 1 < stop - at) (r : Option Tlv) (is : r ≡ head_at page (at + 1) stop) where
+      pub all_past : r ≡ None → set_all (tlvs 1 page start stop) (view page env temp₀ perm₀) ≡ wrote (view page env temp perm)
       unfolding set_all
       all_past x = sym inv ∙ simp (pairs_past page at stop h (was is x))
 
-      module _ (tag from to : ℕ) (x : r ≡ Tlv tag from to) (b : Bool) (temp₁ perm₁ : List ℕ) (e : write (view page env temp perm) (get_or page at 0) (type_for (view page env temp perm) tag from to) (joined (view page env temp perm) (pieces_of page tag from to)) ≡ cond b (wrote (view page env temp₁ perm₁)) no_room) where
-        one : set_all (tlvs 1 page at stop) (view page env temp perm) ≡ then_set (λ d. set_all (tlvs 1 page to stop) d) (cond b (wrote (view page env temp₁ perm₁)) no_room)
+      module _ (v : Tlv) (x : r ≡ Some v) (b : Bool) (temp₁ perm₁ : List ℕ) (e : write (view page env temp perm) (get_or page at 0) (type_for (view page env temp perm) v.tag v.start v.stop) (joined (view page env temp perm) (pieces_of page v.tag v.start v.stop)) ≡ cond b (wrote (view page env temp₁ perm₁)) no_room) where
+        one : set_all (tlvs 1 page at stop) (view page env temp perm) ≡ then_set (λ d. set_all (tlvs 1 page v.stop stop) d) (cond b (wrote (view page env temp₁ perm₁)) no_room)
         unfolding set_all number_before view seen
         one =
             let z : at + 1 - 1 ≡ at = omega arith in
-            rw (pairs_tlv page at stop h (was is x), z) (ap (then_set (λ d. set_all (tlvs 1 page to stop) d)) e)
+            rw (pairs_tlv page at stop h (was is x), z) (ap (then_set (λ d. set_all (tlvs 1 page v.stop stop) d)) e)
 
-        pub all_more : b ≡ true → set_all (tlvs 1 page to stop) (view page env temp₁ perm₁) ≡ set_all (tlvs 1 page start stop) (view page env temp₀ perm₀)
+        pub all_more : b ≡ true → set_all (tlvs 1 page v.stop stop) (view page env temp₁ perm₁) ≡ set_all (tlvs 1 page start stop) (view page env temp₀ perm₀)
         unfolding then_set
         all_more y = sym (one ∙ simp y) ∙ inv
 

@@ -6,8 +6,6 @@ use mathlib.Core.Path.{◌≡◌, refl, sym, subst, ◌∙◌}
 use native.Mathlib.Omega.{arith}
 use lib.Dec.{eqb, ltb}
 use borrow.Author.Tests.{eq-eqb, ne_eqb}
-use Rattle.rules.specs.declared.Spot.{Spot}
-use Rattle.rules.specs.declared.Spot.TheVariants.{After, Cut}
 use Rattle.rules.specs.declared.Body.{Body}
 use Rattle.rules.specs.declared.Body.TheVariants.{Inner, Leaf, Short}
 use Rattle.rules.specs.Grammar.{command_kind}
@@ -15,8 +13,9 @@ use Rattle.rules.specs.Pieces.{pieces, filled}
 use Rattle.rules.specs.Shape.{raw, numbered, length_value, substitution, indicator_shape, shape_of, fixed_of, follows_of, attributes_end, attribute, added, contents, value_at, after_attributes, body_of}
 use Rattle.leaf.proofs.Cases.{both, tests}
 use Rattle.tlv.proofs.Bounds.{attributes_after}
+use Rattle.std.specs.Prelude.{Option, Some, None}
 
-pub b_upto : (s : List ℕ) (tag start stop : ℕ) → start ≤ stop → (e : Spot) → e ≡ attributes_end s tag start stop → (p : ℕ) → e ≡ After p → p ≤ stop
+pub b_upto : (s : List ℕ) (tag start stop : ℕ) → start ≤ stop → (e : Option ℕ) → e ≡ attributes_end s tag start stop → (p : ℕ) → e ≡ Some p → p ≤ stop
 b_upto s tag start stop h e is p x = (attributes_after s tag start stop h (sym is ∙ x)).1
 
 pub added_small : (follows a : ℕ) {x : ℕ} → x ≡ added follows a → x ≤ 2
@@ -38,17 +37,17 @@ module _ (s : List ℕ) (within tag start stop : ℕ) where
     unfolding body_of
     b_unknown z = simp (ne_eqb within command_kind w, eq-eqb (shape_of tag) 0 (sym f ∙ z))
 
-    module _ (z : shape ≡ 0 → ⊥) (e : Spot) (is : e ≡ attributes_end s tag start stop) where
-      pub b_cut : e ≡ Cut → Short ≡ body_of s within tag start stop
+    module _ (z : shape ≡ 0 → ⊥) (e : Option ℕ) (is : e ≡ attributes_end s tag start stop) where
+      pub b_cut : e ≡ None → Short ≡ body_of s within tag start stop
       unfolding body_of after_attributes
       b_cut x = simp (ne_eqb within command_kind w, ne_eqb (shape_of tag) 0 (λ y. z (f ∙ y)), sym is ∙ x)
 
-      pub b_value : (p : ℕ) → e ≡ After p → (a : ℕ) → a ≡ attribute s tag start stop → (x : ℕ) → x ≡ added (shape / 8 % 8) a
+      pub b_value : (p : ℕ) → e ≡ Some p → (a : ℕ) → a ≡ attribute s tag start stop → (x : ℕ) → x ≡ added (shape / 8 % 8) a
           → (r : Body) → r ≡ value_at s shape (shape % 8 + x) p stop → r ≡ body_of s within tag start stop
       unfolding body_of after_attributes fixed_of follows_of
       b_value p v a g x h r q = q ∙ simp (ne_eqb within command_kind w, ne_eqb (shape_of tag) 0 (λ y. z (f ∙ y)), sym is ∙ v, h, g, f)
 
-pub ruleset body_laws = (b_upto, b_indicator, b_simple, b_unknown, b_cut, b_value)
+pub ruleset body_laws = (added_small, b_upto, b_indicator, b_simple, b_unknown, b_cut, b_value)
 
 -- the TLVs inside begin before the value's end
 abbrev BodyIn : ℕ → Body → Type 0
@@ -69,10 +68,10 @@ unfolding value_at
 value_in s shape fixed at stop h =
     both (ltb (stop - at) fixed) (λ t. simp t tt) (λ t. simp t (contents_in s _ _ at (at + fixed) stop h (omega tests)))
 
-after_in : (s : List ℕ) (shape a stop : ℕ) (e : Spot) → ((p : ℕ) → e ≡ After p → p ≤ stop) → BodyIn stop (after_attributes s shape a stop e)
+after_in : (s : List ℕ) (shape a stop : ℕ) (e : Option ℕ) → ((p : ℕ) → e ≡ Some p → p ≤ stop) → BodyIn stop (after_attributes s shape a stop e)
 unfolding after_attributes
-after_in s shape a stop (After p) h = value_in s shape _ p stop (h p refl)
-after_in s shape a stop Cut h = tt
+after_in s shape a stop (Some p) h = value_in s shape _ p stop (h p refl)
+after_in s shape a stop None h = tt
 
 body_in : (s : List ℕ) (within tag start stop : ℕ) → start ≤ stop → BodyIn stop (body_of s within tag start stop)
 unfolding body_of

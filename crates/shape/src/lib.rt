@@ -5,7 +5,7 @@ ghost use Rattle.std.specs.Prelude.{◌≡◌, ◌≤◌, length};
 ghost use Rattle.rules.specs.Shape.{shape_of, kind_at, value_at, body_of};
 ghost use Rattle.rules.specs.Shape.{added as Shape·added, contents as Shape·contents};
 
-use rules::{Body, Spot};
+use rules::{Body, Tlv};
 
 // What follows the fixed bytes of a value.
 const DATA: usize = 1;
@@ -42,26 +42,23 @@ fn added(follows: usize, attribute: u8) -> usize
     ensures { result ≡ Shape·added follows attribute }
 {
     if follows == SIMPLE {
-        return leaf::wide(attribute % 2 + attribute / 4 % 2);
+        leaf::wide(attribute % 2 + attribute / 4 % 2)
+    } else {
+        0
     }
-    0
 }
 
 // The kind of a container whose fixed bytes begin at a place: an action with an ID below '20' is a system action.
+#[tactic(auto, unfolding(rules::specs::Shape::kind_at))]
 pub fn kind_at(s: &[u8], kind: usize, at: usize, stop: usize) -> usize
     requires { stop ≤ length s.now }
     ensures { result ≡ kind_at s.now kind at stop }
 {
-    if kind == grammar::ACTION {
-        if at < stop {
-            if s[at] < 0x20 {
-                return grammar::SYSTEM;
-            }
-            return kind;
-        }
-        return kind;
+    if kind == grammar::ACTION && at < stop && s[at] < 0x20 {
+        grammar::SYSTEM
+    } else {
+        kind
     }
-    kind
 }
 
 // What stands after the fixed bytes of a value, which begin at `at`; the rest begins at `from`.
@@ -70,52 +67,55 @@ pub fn contents(s: &[u8], kind: usize, follows: usize, at: usize, from: usize, s
     ensures { result ≡ Shape·contents s.now kind follows at from stop }
 {
     if follows == DATA {
-        return Body::Leaf;
+        Body::Leaf
+    } else if follows == NUMBERED {
+        Body::Inner(kind, at)
+    } else if follows < LENGTH_VALUE {
+        Body::Inner(kind_at(s, kind, at, stop), from)
+    } else if tlv::pairs_fill(follows == SUBSTITUTION, s, from, stop) {
+        Body::Leaf
+    } else {
+        Body::Short
     }
-    if follows == NUMBERED {
-        return Body::Inner(kind, at);
-    }
-    if follows < LENGTH_VALUE {
-        return Body::Inner(kind_at(s, kind, at, stop), from);
-    }
-    if tlv::pairs_fill(follows == SUBSTITUTION, s, from, stop) {
-        return Body::Leaf;
-    }
-    Body::Short
 }
 
 // What a value of some shape holds after its attributes, with so many fixed bytes.
+#[tactic(auto, unfolding(rules::specs::Shape::follows_of, rules::specs::Shape::kind_of, rules::specs::Shape::value_at))]
 pub fn value_at(s: &[u8], shape: usize, fixed: usize, at: usize, stop: usize) -> Body
     requires stop_in_bounds { stop ≤ length s.now }
     requires at_le_stop { at ≤ stop }
     ensures { result ≡ value_at s.now shape fixed at stop }
 {
     if stop - at < fixed {
-        return Body::Short;
+        Body::Short
+    } else {
+        contents(s, shape / 64, shape / 8 % 8, at, at + fixed, stop)
     }
-    contents(s, shape / 64, shape / 8 % 8, at, at + fixed, stop)
 }
 
 // What the value of a TLV holds, by its tag and the kind of container that it stands in.
-pub fn body_of(s: &[u8], within: usize, tag: u8, start: usize, stop: usize) -> Body
-    requires stop_in_bounds { stop ≤ length s.now }
-    requires start_le_stop { start ≤ stop }
-    ensures { result ≡ body_of s.now within tag start stop }
+#[tactic(auto, using(crate::proofs::BodyLaws::body_laws))]
+pub fn body_of(s: &[u8], within: usize, tlv: Tlv) -> Body
+    requires stop_in_bounds { tlv.stop ≤ length s.now }
+    requires start_le_stop { tlv.start ≤ tlv.stop }
+    ensures { result ≡ body_of s.now within tlv.tag tlv.start tlv.stop }
 {
     if within == grammar::COMMAND {
-        if tag == 0 {
-            return value_at(s, INDICATOR, 1, start, stop);
-        }
-        return Body::Leaf;
+        return if tlv.tag == 0 {
+            value_at(s, INDICATOR, 1, tlv.start, tlv.stop)
+        } else {
+            Body::Leaf
+        };
     }
-    let shape = shape_of(tag);
+    let shape = shape_of(tlv.tag);
     if shape == 0 {
         return Body::Leaf;
     }
-    let Spot::After(p) = tlv::attributes_end(s, tag, start, stop) else {
-        return Body::Short;
-    };
-    let a = tlv::attribute_of(s, tag, start, stop);
-    let fixed = shape % 8 + added(shape / 8 % 8, a);
-    value_at(s, shape, fixed, p, stop)
+    match tlv::attributes_end(s, tlv) {
+        None => Body::Short,
+        Some(p) => {
+            let fixed = shape % 8 + added(shape / 8 % 8, tlv::attribute_of(s, tlv));
+            value_at(s, shape, fixed, p, tlv.stop)
+        }
+    }
 }

@@ -8,24 +8,14 @@ ghost use Rattle.rules.specs.Bytes.{part};
 pub fn byte_at(s: &[u8], at: usize) -> u8
     ensures { result ≡ get_or s.now at 0 }
 {
-    if s.len() <= at {
-        return 0;
-    }
-    s[at]
+    if at < s.len() { s[at] } else { 0 }
 }
 
 // The bytes from a place up to another.
+#[tactic(auto, unfolding(rules::specs::Bytes::part))]
 pub fn part_of(s: &[u8], from: usize, to: usize) -> &[u8]
     ensures { result.now ≡ part s.now from to }
 {
-    if to <= from {
-        return &s[0..0];
-    }
-    if s.len() <= from {
-        return &s[0..0];
-    }
-    if s.len() < to {
-        return &s[from..];
-    }
-    &s[from..to]
+    let end = to.min(s.len());
+    if from < end { &s[from..end] } else { &s[0..0] }
 }

@@ -1,16 +1,17 @@
 -- The test of number 35 on an area, slot by slot.
 -- Assumes nothing.
-use Prim.Native.Nat.{ℕ, ◌+◌, ◌-◌, ◌≤◌, ◌<◌}
+use Prim.Native.Nat.{ℕ, ◌/◌, ◌+◌, ◌-◌, ◌≤◌, ◌<◌}
 use mathlib.Core.Bool.{Bool, false}
-use mathlib.Core.List.{List}
+use mathlib.Core.List.{List, []}
 use mathlib.Core.Path.{◌≡◌, refl, sym, ap, ◌∙◌}
 use native.Mathlib.Omega.{arith}
 use lib.ListN.{length, get_or, take, drop, length-take, length-drop}
 use lib.Seq.{take_all}
 use borrow.Author.Tests.{eq-eqb, ne_eqb, le-leb, lt-ltb, le-ltb}
+use Rattle.std.specs.Prelude.{IsTrue, ◌↔◌, EachIndex}
+use Rattle.std.specs.Simd.{first_chunks}
 use Rattle.pour.specs.Pour.{zeros}
-use Rattle.pour.specs.Stride.{each, all}
-use Rattle.pour.proofs.StrideLaws.{false_both, same_or_false, each_both, all_done, all_more, all_less}
+use Rattle.pour.proofs.StrideLaws.{false_both, same_or_false, each_both, all_by}
 use Rattle.rules.specs.IsCard.{value_fine, slot_fine, slots_fine}
 use Rattle.slots.specs.Slots.{slot_in, slots, tidy_slot, tidy_slots, sound_slot, sound_slots}
 
@@ -41,8 +42,10 @@ module _ (p : List ℕ) where
           let s : n ≤ 255 = omega arith in
           simp (ne_eqb _ _ e, eq-eqb _ _ f, eq-eqb _ _ g, lt-ltb _ _ h, ← i, le-leb _ _ q, le-leb _ _ s) (k ∙ ap zeros (take_all (260 - (4 + n)) (drop (4 + n) p) d) ∙ sym (same_or_false (zeros (drop (4 + n) p))))
 
-pub fine_start : (a : List ℕ) → length a ≡ 16640 → all (drop 0 (each sound_slot 64 260 a)) ≡ sound_slots a
+pub fine_by : (a : List ℕ) → length a ≡ 16640 → (ps : List (List ℕ)) → ps ≡ first_chunks 260 (length a / 260) a → (r : Bool) → (IsTrue r ↔ EachIndex ps (λ k. IsTrue (sound_slot (get_or ps k [])))) → r ≡ sound_slots a
 unfolding sound_slots sound_slot tidy_slots slots slots_fine
-fine_start a l = sym (simp (eq-eqb _ _ l) (each_both slot_in tidy_slot slot_fine slots_fine refl (λ x xs. refl) 64 260 a))
+fine_by a l ps e r h =
+    all_by sound_slot 64 260 a ps (rw l at e) r h
+    ∙ sym (simp (eq-eqb _ _ l) (each_both slot_in tidy_slot slot_fine slots_fine refl (λ x xs. refl) 64 260 a))
 
-pub ruleset fine_laws = (fine_free, fine_live, fine_spare, fine_type, fine_value, fine_start, all_done, all_more, all_less)
+pub ruleset fine_laws = (fine_free, fine_live, fine_spare, fine_type, fine_value)

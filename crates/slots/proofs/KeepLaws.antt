@@ -55,9 +55,9 @@ module _ (a z : List ℕ) (k : ℕ) (h : k < 64) (l : length a ≡ 16640) where
       rw (f, m, length-replicate {A = ℕ} 260 0)
 
 module _ (numbers a : List ℕ) (k : ℕ) (w : List ℕ) (inv : sifted numbers k (64 - k) a ≡ w) where
-  pub sift_more : k < 64 → (n : ℕ) → n ≡ 128 + k → (t : Bool) → t ≡ among numbers n → (b : List ℕ) → b ≡ cond t a (with_slot a k free) → sifted numbers (k + 1) (64 - (k + 1)) b ≡ w
+  pub sift_more : k < 64 → (t : Bool) → t ≡ among numbers (128 + k) → (n : ℕ) → n ≡ k → (b : List ℕ) → b ≡ cond t a (with_slot a n free) → sifted numbers (k + 1) (64 - (k + 1)) b ≡ w
   unfolding sifted
-  sift_more h n e t f b g =
+  sift_more h t f n e b g =
       let s : 64 - k ≡ suc (64 - (k + 1)) = omega arith in
       rw (g, f, e) (rw s at inv)
 

@@ -18,8 +18,6 @@ use Rattle.rules.specs.Store.{room, record_room, room_limit}
 use Rattle.rules.specs.Step.{setting_variables, going_back, branching, exiting, executing, getting_length, unknown, byte_code, here}
 use Rattle.rules.specs.Command.{execute_of}
 use Rattle.rules.specs.IsCard.{slots_fine, records_fine, history_fine, guard_fine, is_accepted, complaint_free, sends_by, sends, hand_fine, run_fine, areas_fine, is_card}
-use Rattle.rules.specs.declared.Head.{Head}
-use Rattle.rules.specs.declared.Head.TheVariants.{Tlv, Past}
 use Rattle.slots.specs.Slots.{slot_in, slots, tidy_slots, sound_slots}
 use Rattle.records.specs.Records.{record_in, records, tidy_records, sound_records}
 use Rattle.trail.specs.Trail.{history_of, tidy_trail, sound_trail}
@@ -31,6 +29,8 @@ use Rattle.state.specs.State.{page_of, run_of, card, tidy_page, tidy_words, tidy
 use Rattle.state.proofs.Canonical.{no_card_lem}
 use Rattle.sound.specs.Sound.{sound_areas, sound_words, sound_rest, sound_place, sends_in, sound_hand, sound_run}
 use Rattle.sound.proofs.RunLaws.{word_room}
+use Rattle.std.specs.Prelude.{Option, Some, None}
+use Rattle.rules.specs.declared.Tlv.{Tlv}
 
 -- no byte code but '46' and 'C6' sends
 not_executing : (c : Card) (tag start stop : ℕ) (a b d e f : Bool) →
@@ -55,13 +55,13 @@ unfolding byte_code
 not_executed c tag start stop t =
     rw t (not_executing c tag start stop (eqb tag 0x40) (eqb (plain tag) 0x43) (eqb tag 0x44) (eqb (plain tag) 0x45) (eqb tag 0x48))
 
-sends_in_lem : (c : Card) (h : Head) → sends c h ≡ sends_in c.run.page h
+sends_in_lem : (c : Card) (h : Option Tlv) → sends c h ≡ sends_in c.run.page h
 unfolding sends sends_by sends_in
-sends_in_lem c Past = refl
-sends_in_lem c (Tlv tag start stop) =
-    both (eqb (plain tag) 0x46)
-    (λ t. rw (executed tag (eqb-true (plain tag) 0x46 t), t) (ap complaint_free (result_page c (execute_of c.run.page tag start stop))))
-    (λ t. rw (not_executed c tag start stop t, t))
+sends_in_lem c None = refl
+sends_in_lem c (Some h) =
+    both (eqb (plain h.tag) 0x46)
+    (λ t. rw (executed h.tag (eqb-true (plain h.tag) 0x46 t), t) (ap complaint_free (result_page c (execute_of c.run.page h.tag h.start h.stop))))
+    (λ t. rw (not_executed c h.tag h.start h.stop t, t))
 
 hand_in : (c : Card) (h : Hand) → hand_fine c h ≡ sound_hand c.run.page c.run.unit c.run.place h
 unfolding hand_fine sound_hand here

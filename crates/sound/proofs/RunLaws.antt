@@ -1,6 +1,6 @@
 -- A run, in the shape of what its proofs need.
 -- Assumes nothing.
-use Prim.Native.Nat.{ℕ, suc, ◌%◌, ◌≤◌, ◌<◌}
+use Prim.Native.Nat.{ℕ, suc, ◌≤◌, ◌<◌}
 use mathlib.Core.Bool.{Bool, true, false, cond}
 use mathlib.Core.List.{List, [], ◌∷◌}
 use mathlib.Core.Path.{◌≡◌, refl, sym, ◌∙◌}
@@ -8,22 +8,13 @@ use native.Mathlib.Omega.{arith}
 use lib.ListN.{length, drop, length-take, length-drop}
 use lib.Dec.{eqb}
 use borrow.Author.Tests.{eq-eqb, ne_eqb, le-leb, lt-leb, lt-ltb, le-ltb, not-true, not-false}
-use Rattle.rules.specs.Tlvs.{plain}
-use Rattle.rules.specs.Page.{unit_count, is_place, code_at}
-use Rattle.rules.specs.Loader.{judge}
-use Rattle.rules.specs.Card.{is_empty}
-use Rattle.rules.specs.Command.{execute_of}
-use Rattle.rules.specs.IsCard.{within, is_open, is_accepted, complaint_free, wanted_fine}
-use Rattle.rules.specs.declared.Head.{Head}
-use Rattle.rules.specs.declared.Head.TheVariants.{Tlv, Past}
-use Rattle.rules.specs.declared.Judged.{Judged}
-use Rattle.rules.specs.declared.Judged.TheVariants.{Accepted, Rejected}
-use Rattle.rules.specs.declared.Complaint.{Complaint}
-use Rattle.rules.specs.declared.Complaint.TheVariants.{Nothing, Undefined, Secured, Misused}
+use Rattle.rules.specs.Page.{code_at}
+use Rattle.rules.specs.IsCard.{within, is_open, wanted_fine}
 use Rattle.word.specs.Word.{word_in, is_marked, guard_of, hand_of}
-use Rattle.execute.specs.Told.{result_told}
 use Rattle.unit.proofs.Units.{code_tlv}
 use Rattle.sound.specs.Sound.{sound_rest, sound_place, sends_in, sound_hand, sound_run}
+use Rattle.std.specs.Prelude.{Option, Some}
+use Rattle.rules.specs.declared.Tlv.{Tlv}
 
 -- an array has no room for more
 pub word_room : (p : List ℕ) (n : ℕ) → length p ≡ suc n → length (word_in p) ≤ n
@@ -51,96 +42,13 @@ module _ (w v : List ℕ) (l : length w ≡ 66) (e : v ≡ word_in w) where
 
 pub ruleset wanted_laws = (wanted_one, wanted_other)
 
-module _ (h w : List ℕ) (unit place : ℕ) where
-  pub rest_unit : (unit ≡ 0 → ⊥) → false ≡ sound_rest h w unit place
-  unfolding sound_rest
-  rest_unit a = simp (ne_eqb _ _ a)
-
-  module _ (a : unit ≡ 0) where
-    pub rest_place : (place ≡ 0 → ⊥) → false ≡ sound_rest h w unit place
-    unfolding sound_rest
-    rest_place b = simp (eq-eqb _ _ a, ne_eqb _ _ b)
-
-    module _ (b : place ≡ 0) (u : Bool) (e : u ≡ is_marked h) where
-      pub rest_hand : u ≡ true → false ≡ sound_rest h w unit place
-      unfolding sound_rest hand_of is_empty
-      rest_hand i = simp (eq-eqb _ _ a, eq-eqb _ _ b, ← e, i)
-
-      pub rest_wanted : u ≡ false → (r : Bool) → r ≡ wanted_fine (word_in w) → r ≡ sound_rest h w unit place
-      unfolding sound_rest hand_of is_empty
-      rest_wanted i r f = simp (eq-eqb _ _ a, eq-eqb _ _ b, ← e, i) f
-
-pub ruleset rest_laws = (rest_unit, rest_place, rest_hand, rest_wanted)
-
-module _ (s : List ℕ) (j : Judged) (e : j ≡ judge s) where
-  pub accepted_page : j ≡ Accepted → true ≡ is_accepted (judge s)
-  unfolding is_accepted
-  accepted_page i = rw (← e, i)
-
-  pub rejected_page : (class at : ℕ) → j ≡ Rejected class at → false ≡ is_accepted (judge s)
-  unfolding is_accepted
-  rejected_page class at i = rw (← e, i)
-
-pub ruleset accepted_laws = (accepted_page, rejected_page)
-
-module _ (s : List ℕ) (unit place : ℕ) (u : Bool) (e : u ≡ is_accepted (judge s)) where
-  pub place_page : u ≡ false → false ≡ sound_place s unit place
-  unfolding sound_place
-  place_page i = simp (← e, i)
-
-  module _ (i : u ≡ true) (n : ℕ) (f : n ≡ unit_count s) where
-    pub place_unit : n ≤ unit → false ≡ sound_place s unit place
-    unfolding sound_place
-    place_unit h = simp (← e, i, ← f, le-ltb _ _ h)
-
-    pub place_code : unit < n → (r : Bool) → r ≡ is_place s unit place → r ≡ sound_place s unit place
-    unfolding sound_place
-    place_code h r g = simp (← e, i, ← f, lt-ltb _ _ h) g
-
-pub ruleset place_laws = (place_page, place_unit, place_code, not-true, not-false)
-
-module _ (x : Complaint) where
-  pub free_nothing : x ≡ Nothing → true ≡ complaint_free x
-  unfolding complaint_free
-  free_nothing e = rw e
-
-  pub free_undefined : x ≡ Undefined → false ≡ complaint_free x
-  unfolding complaint_free
-  free_undefined e = rw e
-
-  pub free_secured : x ≡ Secured → false ≡ complaint_free x
-  unfolding complaint_free
-  free_secured e = rw e
-
-  pub free_misused : x ≡ Misused → false ≡ complaint_free x
-  unfolding complaint_free
-  free_misused e = rw e
-
-pub ruleset free_laws = (free_nothing, free_undefined, free_secured, free_misused)
-
-module _ (s : List ℕ) (unit place : ℕ) (h : Head) (e : h ≡ code_at s unit place) where
-  pub sends_none : h ≡ Past → false ≡ sends_in s (code_at s unit place)
-  unfolding sends_in
-  sends_none i = rw (← e, i)
-
-  module _ (tag start stop : ℕ) (i : h ≡ Tlv tag start stop) where
-    pub sends_start : start ≤ stop
+module _ (s : List ℕ) (unit place : ℕ) (h : Option Tlv) (e : h ≡ code_at s unit place) where
+  module _ (v : Tlv) (i : h ≡ Some v) where
+    pub sends_start : v.start ≤ v.stop
     sends_start = (code_tlv s unit place (sym e ∙ i)).1
 
-    pub sends_stop : stop ≤ length s
+    pub sends_stop : v.stop ≤ length s
     sends_stop = (code_tlv s unit place (sym e ∙ i)).2
-
-    sends_is : sends_in s (code_at s unit place) ≡ cond (eqb (tag % 128) 0x46) (complaint_free (result_told s (execute_of s tag start stop))) false
-    unfolding sends_in plain
-    sends_is = rw (← e, i)
-
-    pub sends_other : (tag % 128 ≡ 0x46 → ⊥) → false ≡ sends_in s (code_at s unit place)
-    sends_other n = sym (sends_is ∙ simp (ne_eqb _ _ n))
-
-    pub sends_told : tag % 128 ≡ 0x46 → (x : Complaint) → x ≡ result_told s (execute_of s tag start stop) → (r : Bool) → r ≡ complaint_free x → r ≡ sends_in s (code_at s unit place)
-    sends_told n x f r g = g ∙ sym (sends_is ∙ simp (eq-eqb _ _ n, ← f))
-
-pub ruleset sends_laws = (sends_none, sends_start, sends_stop, sends_other, sends_told)
 
 module _ (s h : List ℕ) (unit place : ℕ) (u : Bool) (e : u ≡ is_marked h) where
   pub hand_empty : u ≡ false → true ≡ sound_hand s unit place (hand_of h)

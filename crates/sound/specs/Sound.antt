@@ -1,5 +1,5 @@
 -- What number 35 asks of a state, part by part of its arrays.
-use Rattle.std.specs.Prelude.{ℕ, Bool, true, false, cond, List, [], ◌∷◌, length, ltb, leb, eqb}
+use Rattle.std.specs.Prelude.{ℕ, Bool, true, false, cond, List, [], ◌∷◌, length, ltb, leb, eqb, Option, Some, None}
 use Rattle.rules.specs.Tlvs.{plain}
 use Rattle.rules.specs.Page.{unit_count, is_place, code_at}
 use Rattle.rules.specs.Loader.{judge}
@@ -7,12 +7,11 @@ use Rattle.rules.specs.Card.{Hand, empty, by_code, is_empty}
 use Rattle.rules.specs.Store.{room, record_room, room_limit}
 use Rattle.rules.specs.Command.{execute_of}
 use Rattle.rules.specs.IsCard.{within, is_open, is_accepted, complaint_free, wanted_fine}
-use Rattle.rules.specs.declared.Head.{Head}
-use Rattle.rules.specs.declared.Head.TheVariants.{Tlv, Past}
 use Rattle.slots.specs.Slots.{slots, sound_slots}
 use Rattle.records.specs.Records.{records, sound_records}
 use Rattle.word.specs.Word.{word_in, guard_of, hand_of, tidy_guard, tidy_hand, tidy_wanted}
 use Rattle.execute.specs.Told.{result_told}
+use Rattle.rules.specs.declared.Tlv.{Tlv}
 
 -- the areas, and the room that they take
 unfoldable pub sound_areas : List ℕ → List ℕ → List ℕ → Bool
@@ -36,9 +35,9 @@ unfoldable pub sound_place : List ℕ → ℕ → ℕ → Bool
 sound_place page unit place = cond (is_accepted (judge page)) (cond (ltb unit (unit_count page)) (is_place page unit place) false) false
 
 -- a byte code that sends a command, whose result variables the page may write
-unfoldable pub sends_in : List ℕ → Head → Bool
-sends_in page (Tlv tag start stop) = cond (eqb (plain tag) 0x46) (complaint_free (result_told page (execute_of page tag start stop))) false
-sends_in page Past = false
+unfoldable pub sends_in : List ℕ → Option Tlv → Bool
+sends_in page (Some h) = cond (eqb (plain h.tag) 0x46) (complaint_free (result_told page (execute_of page h.tag h.start h.stop))) false
+sends_in page None = false
 
 -- the command in hand
 unfoldable pub sound_hand : List ℕ → ℕ → ℕ → Hand → Bool

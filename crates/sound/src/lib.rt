@@ -9,21 +9,19 @@ ghost use Rattle.word.specs.Word.{word_in, hand_of};
 ghost use Rattle.state.specs.State.{tidy_page, card_of};
 ghost use Rattle.sound.specs.Sound.{sound_areas, sound_words, sound_rest, sound_place, sends_in, sound_hand, sound_run};
 
-use rules::{Complaint, Head, Judged};
+use rules::Complaint;
 use state::State;
 
 // Zeros follow the page.
+#[tactic(auto, using(crate::proofs::PartLaws::page_laws))]
 fn page_fine(page: &[u8; 4096], len: usize) -> bool
     ensures { result ≡ tidy_page page.now len }
 {
-    if 4096 < len {
-        return false;
-    }
-    let s = &page[..];
-    pour::all_zero(&s[len..4096])
+    len <= 4096 && pour::all_zero(&page[len..])
 }
 
 // The areas hold what a card may; the temporary values and the permanent ones each take 2,048 bytes at most.
+#[tactic(auto, using(leaf::proofs::Cases::cases), unfolding(crate::specs::Sound::sound_areas))]
 fn areas_fine<'a>(
     environment: &'a [u8; 16640],
     temporary: &'a [u8; 16640],
@@ -31,121 +29,68 @@ fn areas_fine<'a>(
 ) -> bool
     ensures { result ≡ sound_areas environment.now temporary.now permanent.now }
 {
-    if !slots::slots_fine(environment) {
-        return false;
-    }
-    if !slots::slots_fine(temporary) {
-        return false;
-    }
-    if !records::records_fine(permanent) {
-        return false;
-    }
-    if 2048 < records::record_room(permanent) {
-        return false;
-    }
-    slots::room_of(temporary) <= 2048
+    slots::slots_fine(environment)
+        && slots::slots_fine(temporary)
+        && slots::room_of(temporary) <= 2048
+        && records::records_fine(permanent)
+        && records::record_room(permanent) <= 2048
 }
 
 // Zeros follow the guard's password, the command in hand and the reference wanted.
+#[tactic(auto, using(leaf::proofs::Cases::cases), unfolding(crate::specs::Sound::sound_words, word::specs::Word::tidy_guard, word::specs::Word::tidy_hand, word::specs::Word::tidy_wanted))]
 fn words_fine<'a>(guard: &'a [u8; 18], hand: &'a [u8; 257], wanted: &'a [u8; 66]) -> bool
     ensures { result ≡ sound_words guard.now hand.now wanted.now }
 {
-    if !word::marked_fine(guard) {
-        return false;
-    }
-    if !word::marked_fine(hand) {
-        return false;
-    }
-    word::word_fine(wanted)
+    word::marked_fine(guard) && word::marked_fine(hand) && word::word_fine(wanted)
 }
 
 // A reference has two bytes at least; the array has no room for more than 65.
+#[tactic(auto, using(crate::proofs::RunLaws::wanted_laws))]
 fn wanted_fine(wanted: &[u8; 66]) -> bool
     ensures { result ≡ wanted_fine (word_in wanted.now) }
 {
-    if word::word_of(wanted).len() == 1 {
-        return false;
-    }
-    true
+    word::word_of(wanted).len() != 1
 }
 
 // At rest nothing of a run is left.
+#[tactic(auto, using(leaf::proofs::Cases::cases), unfolding(crate::specs::Sound::sound_rest, word::specs::Word::hand_of, rules::specs::Card::is_empty))]
 fn rest_fine<'a>(hand: &'a [u8; 257], wanted: &'a [u8; 66], unit: usize, place: usize) -> bool
     ensures { result ≡ sound_rest hand.now wanted.now unit place }
 {
-    if unit != 0 {
-        return false;
-    }
-    if place != 0 {
-        return false;
-    }
-    if word::is_marked(hand) {
-        return false;
-    }
-    wanted_fine(wanted)
-}
-
-fn is_accepted(page: &[u8]) -> bool
-    ensures { result ≡ is_accepted (judge page.now) }
-{
-    let judged = loader::judge(page);
-    match judged {
-        Judged::Accepted => true,
-        Judged::Rejected(_, _) => false,
-    }
+    unit == 0 && place == 0 && !word::is_marked(hand) && wanted_fine(wanted)
 }
 
 // The loader accepts the page, and the place is one of a unit.
+#[tactic(auto, using(leaf::proofs::Cases::cases), unfolding(crate::specs::Sound::sound_place, rules::specs::IsCard::is_accepted))]
 fn place_fine(page: &[u8], unit: usize, place: usize) -> bool
     ensures { result ≡ sound_place page.now unit place }
 {
-    if !is_accepted(page) {
-        return false;
-    }
-    if unit::unit_count(page) <= unit {
-        return false;
-    }
-    unit::is_place(page, unit, place)
-}
-
-fn is_nothing(complaint: Complaint) -> bool
-    ensures { result ≡ complaint_free complaint }
-{
-    match complaint {
-        Complaint::Nothing => true,
-        Complaint::Undefined => false,
-        Complaint::Secured => false,
-        Complaint::Misused => false,
-    }
+    loader::judge(page).is_ok()
+        && unit < unit::unit_count(page)
+        && unit::is_place(page, unit, place)
 }
 
 // The byte code at the place sends a command, and its result variables are the page's to write.
+#[tactic(auto, using(leaf::proofs::Cases::cases, crate::proofs::RunLaws::sends_start, crate::proofs::RunLaws::sends_stop), unfolding(crate::specs::Sound::sends_in, rules::specs::Tlvs::plain, rules::specs::IsCard::complaint_free))]
 fn sends(page: &[u8], unit: usize, place: usize) -> bool
     ensures { result ≡ sends_in page.now (code_at page.now unit place) }
 {
-    let Head::Tlv(tag, start, stop) = unit::code_at(page, unit, place) else {
-        return false;
-    };
-    if tag % 128 != 0x46 {
-        return false;
+    match unit::code_at(page, unit, place) {
+        Some(tlv) => tlv.tag % 128 == 0x46 && execute::result_told(page, tlv) == Complaint::Nothing,
+        None => false,
     }
-    is_nothing(execute::result_told(page, tag, start, stop))
 }
 
 // A command in hand has one byte at least; the array has no room for more than 255.
+#[tactic(auto, using(crate::proofs::RunLaws::hand_laws))]
 fn hand_fine<'a>(page: &'a [u8], hand: &'a [u8; 257], unit: usize, place: usize) -> bool
     ensures { result ≡ sound_hand page.now unit place (hand_of hand.now) }
 {
-    if !word::is_marked(hand) {
-        return true;
-    }
-    if word::marked_word(hand).len() == 0 {
-        return false;
-    }
-    sends(page, unit, place)
+    !word::is_marked(hand) || !word::marked_word(hand).is_empty() && sends(page, unit, place)
 }
 
 // While a page runs there is no guard, and no page is wanted.
+#[tactic(auto, using(crate::proofs::RunLaws::run_laws))]
 fn run_fine<'a>(
     page: &'a [u8],
     guard: &'a [u8; 18],
@@ -156,44 +101,30 @@ fn run_fine<'a>(
 ) -> bool
     ensures { result ≡ sound_run page.now guard.now hand.now wanted.now unit place }
 {
-    if page.len() == 0 {
+    if page.is_empty() {
         return rest_fine(hand, wanted, unit, place);
     }
-    if word::is_marked(guard) {
-        return false;
-    }
-    if 0 < word::word_of(wanted).len() {
-        return false;
-    }
-    if !place_fine(page, unit, place) {
-        return false;
-    }
-    hand_fine(page, hand, unit, place)
+    !word::is_marked(guard)
+        && word::word_of(wanted).is_empty()
+        && place_fine(page, unit, place)
+        && hand_fine(page, hand, unit, place)
 }
 
 // The state is a card: in canonical form (House), each part one that a card may have.
+#[tactic(auto, using(crate::proofs::CardLaws::sound_laws))]
 pub fn is_sound(state: State) -> bool
     ensures { result ≡ is_card (card_of state) }
 {
-    if !page_fine(&state.page, state.len) {
-        return false;
-    }
-    if !areas_fine(&state.environment, &state.temporary, &state.permanent) {
-        return false;
-    }
-    if !trail::history_fine(&state.trail) {
-        return false;
-    }
-    if !words_fine(&state.guard, &state.hand, &state.wanted) {
-        return false;
-    }
-    let page = state::page_of(&state.page, state.len);
-    run_fine(
-        page,
-        &state.guard,
-        &state.hand,
-        &state.wanted,
-        state.unit,
-        state.place,
-    )
+    page_fine(&state.page, state.len)
+        && areas_fine(&state.environment, &state.temporary, &state.permanent)
+        && trail::history_fine(&state.trail)
+        && words_fine(&state.guard, &state.hand, &state.wanted)
+        && run_fine(
+            state::page_of(&state.page, state.len),
+            &state.guard,
+            &state.hand,
+            &state.wanted,
+            state.unit,
+            state.place,
+        )
 }

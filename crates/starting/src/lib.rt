@@ -11,16 +11,17 @@ ghost use Rattle.state.specs.State.{Is};
 use state::State;
 
 // Temporary variables stay where the page opens them; else nothing of them does.
+#[tactic(auto, using(crate::proofs::StartLaws::admit_laws))]
 fn admit(temporary: &mut [u8; 16640], opened: bool)
     ensures temporary_after { slots temporary.new ≡ cond opened (slots temporary.old) (cleared (slots temporary.old)) }
     ensures temporary_after_2 { tidy_slots temporary.old ≡ true → tidy_slots temporary.new ≡ true }
 {
-    if opened {
-        return;
+    if !opened {
+        slots::clear(temporary);
     }
-    slots::clear(temporary);
 }
 
+#[tactic(auto, using(crate::proofs::StartLaws::put_at))]
 fn put_page(dst: &mut [u8; 4096], page: &[u8])
     requires { length page.now ≤ 4096 }
     ensures { dst.new ≡ padded 4096 page.now }

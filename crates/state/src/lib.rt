@@ -25,6 +25,7 @@ pub struct State {
     pub place: usize,
 }
 
+#[tactic(auto, using(crate::proofs::PageLaws::page_laws))]
 fn front(s: &[u8], n: usize) -> &[u8]
     requires { length s.now ≡ 4096 }
     ensures { (result.now ≡ take n s.now) × (length result.now ≤ 4096) }
@@ -43,6 +44,7 @@ pub fn page_of(page: &[u8; 4096], len: usize) -> &[u8]
 }
 
 // A new card at rest.
+#[tactic(auto, using(crate::proofs::CreateLaws::created_is))]
 pub fn create() -> State
     ensures { Is result created }
 {
@@ -70,6 +72,7 @@ pub fn note(environment: &mut [u8; 16640], high: u8, low: u8)
     slots::write_slot(environment, 5, 3, &code);
 }
 
+#[tactic(auto, using(word::proofs::WordLaws::blank_at))]
 fn wipe_page(page: &mut [u8; 4096])
     ensures { page.new ≡ blank 4096 }
 {

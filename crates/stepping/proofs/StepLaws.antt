@@ -14,7 +14,6 @@ use Rattle.rules.specs.declared.Refusal.{Refusal}
 use Rattle.rules.specs.declared.Refusal.TheVariants.{Memory}
 use Rattle.rules.specs.declared.Target.{Target}
 use Rattle.rules.specs.declared.Target.TheVariants.{Unit as OwnUnit, Lacking, Other}
-use Rattle.rules.specs.declared.Judged.TheVariants.{Accepted}
 use Rattle.rules.specs.Numbers.{code, no_error}
 use Rattle.rules.specs.Bytes.{part, hex, hex_to}
 use Rattle.rules.specs.Tlvs.{tlvs}
@@ -62,6 +61,8 @@ use Rattle.parts.proofs.PartLaws.{nowhere_not_page}
 use Rattle.stepping.specs.declared.Took.{Took}
 use Rattle.stepping.specs.declared.Took.TheVariants.{On, Sent, Ends}
 use Rattle.stepping.specs.Took.{Ready, Leads}
+use Rattle.std.specs.Prelude.{Ok}
+use Rattle.rules.specs.declared.Tlv.{Tlv}
 
 -- no command in hand
 idle_hand : (h : Hand) → is_empty h ≡ true → h ≡ empty
@@ -109,16 +110,16 @@ module _ (page : List ℕ) (len : ℕ) (environment temporary permanent : List �
   pub store_within : (start stop : ℕ) → way ≡ Store start stop → stop ≤ length (take len page)
   store_within start stop x = (rw x at inside).1
 
-  pub send_ordered : (tag start stop : ℕ) → way ≡ Send tag start stop → start ≤ stop
-  send_ordered tag start stop x = (rw x at inside).0
+  pub send_ordered : (v : Tlv) → way ≡ Send v → v.start ≤ v.stop
+  send_ordered v x = (rw x at inside).0
 
-  pub send_within : (tag start stop : ℕ) → way ≡ Send tag start stop → stop ≤ length (take len page)
-  send_within tag start stop x = (rw x at inside).1
+  pub send_within : (v : Tlv) → way ≡ Send v → v.stop ≤ length (take len page)
+  send_within v x = (rw x at inside).1
 
   pub length_within : (number from to stop : ℕ) → way ≡ Length number from to stop → to ≤ length (take len page)
   length_within number from to stop x = rw x at inside
 
-pub served : (page : List ℕ) → judge page ≡ Accepted → length (service page) ≤ 16
+pub served : (page : List ℕ) → judge page ≡ Ok tt → length (service page) ≤ 16
 served page ok = accepted_service page ok
 
 module _ (m : State) (r : Ready m) (before : List ℕ) where
@@ -130,7 +131,7 @@ module _ (m : State) (r : Ready m) (before : List ℕ) where
   goes_on_lem o unit place k = record { stands = k; buffer = rw (← k.outcome) refl }
 
   -- the page ends, with the card that the keep rule meets
-  ends : (outcome : Outcome) → goes_on outcome ≡ false → ((c : Card) → before ≡ buffer_after before c outcome) → (o : State) (d : Card) → Is o d → judge d.run.page ≡ Accepted → stepped (card m) ≡ effect outcome (rested d) → Leads (Ends outcome) m o before before
+  ends : (outcome : Outcome) → goes_on outcome ≡ false → ((c : Card) → before ≡ buffer_after before c outcome) → (o : State) (d : Card) → Is o d → judge d.run.page ≡ Ok tt → stepped (card m) ≡ effect outcome (rested d) → Leads (Ends outcome) m o before before
   ends outcome off quiet o d is ok e =
       let v : card o ≡ d = is_card_lem o d is in
       record { stands = record { is = rw v is; accepted = rw v ok; stops = off; rests = rw v e }; buffer = rw e (quiet (rested d)) }
@@ -156,7 +157,7 @@ module _ (m : State) (r : Ready m) (before : List ℕ) where
         place_leads q x took y =
             rw y (goes_on_lem _ _ _ (rw (stepping (Place q) x) (record { outcome = refl; state = placed_is m (card m) r.is environment t a q m.hand idle_now r.is.tidy_held })))
 
-        module _ (trail : List ℕ) (b : judge (take m.len m.page) ≡ Accepted → history_of trail ≡ left_by (entry_for (take m.len m.page) m.unit) (history_of m.trail)) (v : tidy_trail m.trail ≡ true → tidy_trail trail ≡ true) where
+        module _ (trail : List ℕ) (b : judge (take m.len m.page) ≡ Ok tt → history_of trail ≡ left_by (entry_for (take m.len m.page) m.unit) (history_of m.trail)) (v : tidy_trail m.trail ≡ true → tidy_trail trail ≡ true) where
           left : Is (laid m.page m.len environment m.temporary m.permanent trail m.guard m.hand m.wanted m.unit m.place) (leaving (marked no_error (card m)))
           left = left_is m (card m) r.is environment t a trail v r.runs.accepted b
 
@@ -244,12 +245,12 @@ module _ (m : State) (r : Ready m) (before : List ℕ) where
           count_full number from to stop x f = full (stepping (Length number from to stop) x ∙ ap (applied (card m)) (length_full m (card m) r.is (take m.len m.page) refl b temporary permanent number from to stop f z)) temporary permanent (i z).0 (i z).1
 
     -- a command
-    module _ (tag start stop number : ℕ) (x : way ≡ Send tag start stop) (f : number ≡ length (command_of (take m.len m.page) m.environment m.temporary m.permanent tag start stop)) where
+    module _ (v : Tlv) (number : ℕ) (x : way ≡ Send v) (f : number ≡ length (command_of (take m.len m.page) m.environment m.temporary m.permanent v.tag v.start v.stop)) where
       abbrev text : List ℕ
-      text = command_of (take m.len m.page) m.environment m.temporary m.permanent tag start stop
+      text = command_of (take m.len m.page) m.environment m.temporary m.permanent v.tag v.start v.stop
 
-      same : text ≡ command (card m) (execute_of (card m).run.page tag start stop)
-      same = command_is m (card m) r.is tag start stop (take m.len m.page) refl
+      same : text ≡ command (card m) (execute_of (card m).run.page v.tag v.start v.stop)
+      same = command_is m (card m) r.is v.tag v.start v.stop (take m.len m.page) refl
 
       -- it goes out
       module _ (l : number ≤ 255) (hand after : List ℕ) (g : number ≤ 255 → (hand ≡ laid_marked 257 text) × (after ≡ poured before 0 text)) where
@@ -259,8 +260,8 @@ module _ (m : State) (r : Ready m) (before : List ℕ) where
         sending : stepped (card m) ≡ moved (card m) (send text)
         unfolding plan_of applied issued
         sending =
-            let fits : ltb 255 (length (command (card m) (execute_of (card m).run.page tag start stop))) ≡ false = rw (← same, ← f) (le-ltb _ _ l) in
-            rw (stepping (Send tag start stop) x, fits, ← same) refl
+            let fits : ltb 255 (length (command (card m) (execute_of (card m).run.page v.tag v.start v.stop))) ≡ false = rw (← same, ← f) (le-ltb _ _ l) in
+            rw (stepping (Send v) x, fits, ← same) refl
 
         pub send_leads : Leads (Sent number) m (laid m.page m.len m.environment m.temporary m.permanent m.trail m.guard hand m.wanted m.unit m.place) before after
         send_leads = record { stands = rw (sending, f) sends.comes; buffer = rw sending sends.buffer }
@@ -269,5 +270,5 @@ module _ (m : State) (r : Ready m) (before : List ℕ) where
       pub send_full : 255 < number → (environment : List ℕ) → (tidy_slots m.environment ≡ true → tidy_slots environment ≡ true) → slots environment ≡ set (slots m.environment) 5 (held 3 (code Memory)) → (took : Took) → took ≡ Ends (Refused Memory) → (hand out : List ℕ) → (255 < number → (hand ≡ m.hand) × (out ≡ before)) → Leads took m (laid m.page m.len environment m.temporary m.permanent m.trail m.guard hand m.wanted m.unit m.place) before out
       unfolding plan_of issued
       send_full l environment t a took y hand out p =
-          let long : ltb 255 (length (command (card m) (execute_of (card m).run.page tag start stop))) ≡ true = rw (← same, ← f) (lt-ltb _ _ l) in
-          rw ((p l).0, (p l).1) (fails environment t Memory a took y (stepping (Send tag start stop) x ∙ ap (applied (card m)) (rw long refl)))
+          let long : ltb 255 (length (command (card m) (execute_of (card m).run.page v.tag v.start v.stop))) ≡ true = rw (← same, ← f) (lt-ltb _ _ l) in
+          rw ((p l).0, (p l).1) (fails environment t Memory a took y (stepping (Send v) x ∙ ap (applied (card m)) (rw long refl)))

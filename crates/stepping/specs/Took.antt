@@ -1,8 +1,7 @@
 -- A step of a page that runs, past the tests of 32, 35 and 33: where it leads.
-use Rattle.std.specs.Prelude.{ℕ, true, false, ◌≡◌, List}
+use Rattle.std.specs.Prelude.{ℕ, true, false, ◌≡◌, List, Ok}
 use Rattle.rules.specs.declared.Outcome.{Outcome}
 use Rattle.rules.specs.declared.Outcome.TheVariants.{On as GoneOn, Command}
-use Rattle.rules.specs.declared.Judged.TheVariants.{Accepted}
 use Rattle.rules.specs.Loader.{judge}
 use Rattle.rules.specs.Card.{is_empty}
 use Rattle.rules.specs.Keep.{rested}
@@ -25,7 +24,7 @@ pub record Ready (m : State) : Type 0 where
 -- the page ends: what is left of the effect is the keep rule
 pub record Ending (outcome : Outcome) (o : State) (e : Effect) : Type 0 where
   pub is : Is o (card o)
-  pub accepted : judge (card o).run.page ≡ Accepted
+  pub accepted : judge (card o).run.page ≡ Ok tt
   pub stops : goes_on outcome ≡ false
   pub rests : e ≡ effect outcome (rested (card o))
 

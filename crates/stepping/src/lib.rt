@@ -1,8 +1,7 @@
 // A step of a page that runs, done in place on the lent parts of its state.
 #![tactic(auto)]
 
-ghost use Rattle.std.specs.Prelude.{◌≡◌, true, List, [], ◌∷◌, ℕ, ◌≤◌, length, take, set};
-ghost use Rattle.rules.specs.declared.Judged.TheVariants.{Accepted};
+ghost use Rattle.std.specs.Prelude.{◌≡◌, true, List, [], ◌∷◌, ℕ, ◌≤◌, length, take, set, Ok};
 ghost use Rattle.rules.specs.declared.Outcome.TheVariants.{Refused};
 ghost use Rattle.rules.specs.Numbers.{code};
 ghost use Rattle.rules.specs.Loader.{judge};
@@ -15,6 +14,7 @@ ghost use Rattle.stepping.specs.Took.{Ready, Leads};
 use parts::Turn;
 use rules::{Outcome, Refusal};
 use ways::Way;
+use writing::NoMemory;
 
 // Where a step leads: on, to a unit and a place in it; to a command of a length that went out; to the page's end, for which the keep rule is still to be followed.
 #[derive(Clone, Copy)]
@@ -58,7 +58,7 @@ pub fn take_step(
     place: usize,
     out: &mut [u8],
 ) -> Took
-    requires { (judge (take len page.now) ≡ Accepted) × (255 ≤ length out.old) }
+    requires { (judge (take len page.now) ≡ Ok tt) × (255 ≤ length out.old) }
     ensures { (guard : List ℕ) → Ready (laid page.now len environment.old temporary.old permanent.old trail.old guard hand.old wanted.old unit place) → Leads result (laid page.now len environment.old temporary.old permanent.old trail.old guard hand.old wanted.old unit place) (laid page.now len environment.new temporary.new permanent.new trail.new guard hand.new wanted.new unit place) out.old out.new }
 {
     match ways::way_at(page, len, environment, temporary, permanent, unit, place) {
@@ -72,27 +72,25 @@ pub fn take_step(
             Took::Ends(Outcome::Ended)
         }
         Way::Store(start, stop) => {
-            if parts::set_all(page, len, environment, temporary, permanent, start, stop) {
-                return go_on(environment, unit, stop);
+            match parts::set_all(page, len, environment, temporary, permanent, start, stop) {
+                Ok(()) => go_on(environment, unit, stop),
+                Err(NoMemory) => refuse(environment, Refusal::Memory),
             }
-            refuse(environment, Refusal::Memory)
         }
         Way::Length(n, from, to, stop) => {
-            if parts::set_length(page, len, environment, temporary, permanent, n, from, to) {
-                return go_on(environment, unit, stop);
+            match parts::set_length(page, len, environment, temporary, permanent, n, from, to) {
+                Ok(()) => go_on(environment, unit, stop),
+                Err(NoMemory) => refuse(environment, Refusal::Memory),
             }
-            refuse(environment, Refusal::Memory)
         }
-        Way::Send(tag, start, stop) => {
+        Way::Send(tlv) => {
             let n = parts::send_command(
                 page,
                 len,
                 environment,
                 temporary,
                 permanent,
-                tag,
-                start,
-                stop,
+                tlv,
                 hand,
                 out,
             );

@@ -6,7 +6,6 @@ use mathlib.Core.List.{List, [], ◌∷◌}
 use mathlib.Core.Path.{◌≡◌, refl, sym, ap, ◌∙◌}
 use lib.ListN.{length, set}
 use lib.Dec.{ltb}
-use Rattle.rules.specs.declared.Head.{Head}
 use Rattle.rules.specs.Tlvs.{Tlvs, done, past, tlv}
 use Rattle.rules.specs.Page.{service}
 use Rattle.rules.specs.Card.{Slot, free, held, Record, stored, Card, with_temporary, with_permanent}
@@ -19,6 +18,8 @@ use Rattle.leaf.proofs.Cases.{both}
 use Rattle.variable.specs.View.{seen, bare}
 use Rattle.value.proofs.Bare.{bare_joined}
 use Rattle.valuetype.proofs.Bare.{bare_type}
+use Rattle.std.specs.Prelude.{Option}
+use Rattle.rules.specs.declared.Tlv.{Tlv}
 
 unfoldable pub lift : Card → Written → Written
 lift c (wrote d) = wrote (over c d.permanent d.temporary)
@@ -84,7 +85,7 @@ general_lift : (c : Card) (x : Execute) (g : ℕ) →
 unfolding lift bare seen
 general_lift c x g = both (has_general x) (λ t. simp t (write_lift c (general_number c.run.page x) 0 (g ∷ []))) (λ t. simp t (refl, refl))
 
-output_lift : (c : Card) (x : Execute) (r : List ℕ) (after : Head) (p : List Record) (t : List Slot) →
+output_lift : (c : Card) (x : Execute) (r : List ℕ) (after : Option Tlv) (p : List Record) (t : List Slot) →
     then_output r x after (wrote (over c p t)) ≡ lift c (then_output r x after (wrote (bare (over c p t))))
 unfolding then_output lift bare seen
 output_lift c x r after p t =
@@ -96,12 +97,12 @@ output_lift c x r after p t =
     lift_over (wrote e) = refl
     lift_over no_room = refl
 
-outputs_lift : (c : Card) (x : Execute) (r : List ℕ) (after : Head) (w : Written) → Kept c w → then_output r x after (lift c w) ≡ lift c (then_output r x after w)
+outputs_lift : (c : Card) (x : Execute) (r : List ℕ) (after : Option Tlv) (w : Written) → Kept c w → then_output r x after (lift c w) ≡ lift c (then_output r x after w)
 unfolding lift then_output
 outputs_lift c x r after (wrote d) k = output_lift c x r after d.permanent d.temporary ∙ ap (λ (e : Card). lift c (then_output r x after (wrote e))) (sym k)
 outputs_lift c x r after no_room k = refl
 
-pub results_lift : (c : Card) (x : Execute) (g : ℕ) (r : List ℕ) (after : Head) → results c x g r after ≡ lift c (results (bare c) x g r after)
+pub results_lift : (c : Card) (x : Execute) (g : ℕ) (r : List ℕ) (after : Option Tlv) → results c x g r after ≡ lift c (results (bare c) x g r after)
 unfolding results bare seen
 results_lift c x g r after =
     let w = general_lift c x g in

@@ -7,24 +7,20 @@ use lib.ListN.{get_or}
 use lib.Dec.{ltb, leb, eqb}
 use mathlib.Core.Path.{◌≡◌, sym, subst, ◌∙◌}
 use native.Mathlib.Omega.{arith}
-use Rattle.rules.specs.declared.Length.{Length}
-use Rattle.rules.specs.declared.Length.TheVariants.{Got, Bad}
-use Rattle.rules.specs.declared.Head.{Head}
-use Rattle.rules.specs.declared.Head.TheVariants.{Tlv, Past}
 use Rattle.rules.specs.declared.Pair.{Pair}
 use Rattle.rules.specs.declared.Pair.TheVariants.{Text, Number, Broken}
-use Rattle.rules.specs.declared.Spot.{Spot}
-use Rattle.rules.specs.declared.Spot.TheVariants.{After, Cut}
 use Rattle.rules.specs.Tlv.{length_at, head_at, head_of}
 use Rattle.rules.specs.Pieces.{indicates, text_of, pair_at}
 use Rattle.rules.specs.Shape.{attributes_in, attributes_end}
 use Rattle.rules.specs.Page.{spot_or, content_at}
 use Rattle.leaf.proofs.Cases.{both, tests}
+use Rattle.std.specs.Prelude.{Option, Some, None}
+use Rattle.rules.specs.declared.Tlv.{Tlv}
 
 -- a length that was read lies before the end
-abbrev LengthIn : ℕ → ℕ → Length → Type 0
-LengthIn at end (Got n next) = (at < next) × (next ≤ end)
-LengthIn at end Bad = Unit {0}
+abbrev LengthIn : ℕ → ℕ → Option (ℕ × ℕ) → Type 0
+LengthIn at end (Some p) = (at < p.1) × (p.1 ≤ end)
+LengthIn at end None = Unit {0}
 
 length_in : (s : List ℕ) (at end : ℕ) → LengthIn at end (length_at s at end)
 unfolding length_at
@@ -35,50 +31,53 @@ length_in s at end =
     both (eqb (get_or s at 0) 130) (λ t4. both (ltb (end - at) 3) (λ t5. simp (t, t2, t3, t4, t5) tt) (λ t5. simp (t, t2, t3, t4, t5) (omega tests)))
     (λ t4. simp (t, t2, t3, t4) tt))))
 
-pub length_got : (s : List ℕ) (at end : ℕ) {n next : ℕ} → length_at s at end ≡ Got n next → (at < next) × (next ≤ end)
+pub length_got : (s : List ℕ) (at end : ℕ) {n next : ℕ} → length_at s at end ≡ Some (n, next) → (at < next) × (next ≤ end)
 length_got s at end e = subst (LengthIn at end) e (length_in s at end)
 
 -- a TLV that was read lies before the end
-abbrev pub HeadIn : ℕ → ℕ → Head → Type 0
-HeadIn at end (Tlv tag start stop) = (at < start) × (start ≤ stop) × (stop ≤ end)
-HeadIn at end Past = Unit {0}
+abbrev pub HeadIn : ℕ → ℕ → Option Tlv → Type 0
+HeadIn at end (Some h) = (at < h.start) × (h.start ≤ h.stop) × (h.stop ≤ end)
+HeadIn at end None = Unit {0}
 
-head_of_in : (tag at end : ℕ) (l : Length) → LengthIn (at + 1) end l → HeadIn at end (head_of tag end l)
+head_of_in : (tag at end : ℕ) (l : Option (ℕ × ℕ)) → LengthIn (at + 1) end l → HeadIn at end (head_of tag end l)
 unfolding head_of
-head_of_in tag at end (Got n next) h = both (ltb (end - next) n) (λ t. simp t tt) (λ t. simp t (omega tests))
-head_of_in tag at end Bad h = tt
+head_of_in tag at end (Some p) h = both (ltb (end - p.1) p.0) (λ t. simp t tt) (λ t. simp t (omega tests))
+head_of_in tag at end None h = tt
 
 pub head_in : (s : List ℕ) (at end : ℕ) → HeadIn at end (head_at s at end)
 unfolding head_at
 head_in s at end = both (leb end at) (λ t. simp t tt) (λ t. simp t (head_of_in _ at end (length_at s (at + 1) end) (length_in s (at + 1) end)))
 
-pub head_tlv : (s : List ℕ) (at end : ℕ) {tag start stop : ℕ} → head_at s at end ≡ Tlv tag start stop → (at < start) × (start ≤ stop) × (stop ≤ end)
+pub head_tlv : (s : List ℕ) (at end : ℕ) {v : Tlv} → head_at s at end ≡ Some v → (at < v.start) × (v.start ≤ v.stop) × (v.stop ≤ end)
 head_tlv s at end e = subst (HeadIn at end) e (head_in s at end)
 
 -- what a loop over the TLVs of a container needs: the rest is shorter, a count stays below the place, the value lies in the bytes
-module _ (s : List ℕ) (at end : ℕ) (r : Head) (is : r ≡ head_at s at end) (tag start stop : ℕ) (x : r ≡ Tlv tag start stop) where
-  inside : (at < start) × (start ≤ stop) × (stop ≤ end)
+module _ (s : List ℕ) (at end : ℕ) (r : Option Tlv) (is : r ≡ head_at s at end) (v : Tlv) (x : r ≡ Some v) where
+  inside : (at < v.start) × (v.start ≤ v.stop) × (v.stop ≤ end)
   inside = head_tlv s at end (sym is ∙ x)
 
-  pub next_less : at < end → end - stop < end - at
-  next_less h = let b = inside in omega arith
+  pub next_less : end - v.stop < end - at
+  next_less = let b = inside in omega arith
 
-  pub next_counted : (n : ℕ) → n ≤ at → n + 1 ≤ stop
+  pub next_counted : (n : ℕ) → n ≤ at → n + 1 ≤ v.stop
   next_counted n h = let b = inside in omega arith
 
-  pub next_above : (n : ℕ) → n ≤ at → n ≤ stop
+  pub next_room : (n m : ℕ) → n ≤ at → end < m → n + 1 < m
+  next_room n m h k = let b = inside in omega arith
+
+  pub next_above : (n : ℕ) → n ≤ at → n ≤ v.stop
   next_above n h = let b = inside in omega arith
 
-  pub next_within : (n : ℕ) → end ≤ n → stop ≤ n
+  pub next_within : (n : ℕ) → end ≤ n → v.stop ≤ n
   next_within n h = let b = inside in omega arith
 
-  pub next_byte : (p n : ℕ) → p < stop → end ≤ n → p < n
+  pub next_byte : (p n : ℕ) → p < v.stop → end ≤ n → p < n
   next_byte p n h k = let b = inside in omega arith
 
-  pub next_ordered : start ≤ stop
+  pub next_ordered : v.start ≤ v.stop
   next_ordered = let b = inside in omega arith
 
-pub ruleset next_laws = (next_less, next_counted, next_above, next_within, next_byte, next_ordered)
+pub ruleset next_laws = (next_less, next_counted, next_room, next_above, next_within, next_byte, next_ordered)
 
 -- a pair that was read lies before the end
 abbrev pub PairIn : ℕ → ℕ → Pair → Type 0
@@ -86,10 +85,10 @@ PairIn at end (Text from to) = (at < from) × (from ≤ to) × (to ≤ end)
 PairIn at end (Number n next) = (at < next) × (next ≤ end)
 PairIn at end Broken = Unit {0}
 
-text_in : (at end : ℕ) (l : Length) → LengthIn at end l → PairIn at end (text_of end l)
+text_in : (at end : ℕ) (l : Option (ℕ × ℕ)) → LengthIn at end l → PairIn at end (text_of end l)
 unfolding text_of
-text_in at end (Got n from) h = both (ltb (end - from) n) (λ t. simp t tt) (λ t. simp t (omega tests))
-text_in at end Bad h = tt
+text_in at end (Some p) h = both (ltb (end - p.1) p.0) (λ t. simp t tt) (λ t. simp t (omega tests))
+text_in at end None h = tt
 
 pub pair_in : (substituted : Bool) (s : List ℕ) (at end : ℕ) → PairIn at end (pair_at substituted s at end)
 unfolding pair_at
@@ -115,9 +114,9 @@ module _ (substituted : Bool) (s : List ℕ) (at end : ℕ) (p : Pair) (is : p �
 pub ruleset shorter_laws = (text_less, number_less)
 
 -- attributes end after the start of their value, and not past its end
-abbrev SpotIn : ℕ → ℕ → Spot → Type 0
-SpotIn start stop (After p) = (start ≤ p) × (p ≤ stop)
-SpotIn start stop Cut = Unit {0}
+abbrev SpotIn : ℕ → ℕ → Option ℕ → Type 0
+SpotIn start stop (Some p) = (start ≤ p) × (p ≤ stop)
+SpotIn start stop None = Unit {0}
 
 attributes_in_lem : (n : ℕ) (s : List ℕ) (at : ℕ) {start stop : ℕ} → start ≤ at → at + n ≡ stop → SpotIn start stop (attributes_in n s at)
 unfolding attributes_in
@@ -129,13 +128,13 @@ end_in : (s : List ℕ) (tag start stop : ℕ) → start ≤ stop → SpotIn sta
 unfolding attributes_end
 end_in s tag start stop h = both (ltb tag 128) (λ t. simp t (omega arith)) (λ t. simp t (attributes_in_lem (stop - start) s start (omega arith) (omega arith)))
 
-pub attributes_after : (s : List ℕ) (tag start stop : ℕ) → start ≤ stop → {p : ℕ} → attributes_end s tag start stop ≡ After p → (start ≤ p) × (p ≤ stop)
+pub attributes_after : (s : List ℕ) (tag start stop : ℕ) → start ≤ stop → {p : ℕ} → attributes_end s tag start stop ≡ Some p → (start ≤ p) × (p ≤ stop)
 attributes_after s tag start stop h e = subst (SpotIn start stop) e (end_in s tag start stop h)
 
-spot_or_in : (start stop : ℕ) → start ≤ stop → (p : Spot) → SpotIn start stop p → (start ≤ spot_or stop p) × (spot_or stop p ≤ stop)
+spot_or_in : (start stop : ℕ) → start ≤ stop → (p : Option ℕ) → SpotIn start stop p → (start ≤ spot_or stop p) × (spot_or stop p ≤ stop)
 unfolding spot_or
-spot_or_in start stop h (After p) b = b
-spot_or_in start stop h Cut b = omega arith
+spot_or_in start stop h (Some p) b = b
+spot_or_in start stop h None b = omega arith
 
 pub content_in : (s : List ℕ) (tag start stop : ℕ) → start ≤ stop → (start ≤ content_at s tag start stop) × (content_at s tag start stop ≤ stop)
 unfolding content_at

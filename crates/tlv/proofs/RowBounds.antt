@@ -4,22 +4,22 @@ use Prim.Native.Nat.{ℕ, zero, suc, ◌+◌, ◌-◌, ◌≤◌, ◌<◌}
 use mathlib.Core.List.{List}
 use lib.Dec.{leb}
 use native.Mathlib.Omega.{arith}
-use Rattle.rules.specs.declared.Head.{Head}
-use Rattle.rules.specs.declared.Head.TheVariants.{Tlv, Past}
 use Rattle.rules.specs.Tlv.{head_at}
 use Rattle.rules.specs.Tlvs.{Tlvs, done, past, tlv, row, tlvs_up_to, tlvs}
 use Rattle.leaf.proofs.Cases.{both}
 use Rattle.tlv.proofs.Bounds.{HeadIn, head_in}
+use Rattle.std.specs.Prelude.{Option, Some, None}
+use Rattle.rules.specs.declared.Tlv.{Tlv}
 
 unfoldable pub RowIn : ℕ → ℕ → Tlvs → Type 0
 RowIn from end (done p) = Unit {0}
 RowIn from end (past p) = Unit {0}
 RowIn from end (tlv tag at start stop rest) = (from ≤ at) × (at < start) × (start ≤ stop) × (stop ≤ end) × RowIn from end rest
 
-row_in : (rest : ℕ → Tlvs) (from at end : ℕ) (h : Head) → from ≤ at → HeadIn at end h → ((p : ℕ) → from ≤ p → RowIn from end (rest p)) → RowIn from end (row rest at h)
+row_in : (rest : ℕ → Tlvs) (from at end : ℕ) (h : Option Tlv) → from ≤ at → HeadIn at end h → ((p : ℕ) → from ≤ p → RowIn from end (rest p)) → RowIn from end (row rest at h)
 unfolding RowIn row
-row_in rest from at end (Tlv tag start stop) low b on = (low, b.0, b.1, b.2, on stop (omega arith))
-row_in rest from at end Past low b on = tt
+row_in rest from at end (Some h) low b on = (low, b.0, b.1, b.2, on h.stop (omega arith))
+row_in rest from at end None low b on = tt
 
 tlvs_up_to_in : (n gap : ℕ) (s : List ℕ) (from at end : ℕ) → from ≤ at → RowIn from end (tlvs_up_to n gap s at end)
 unfolding RowIn tlvs_up_to

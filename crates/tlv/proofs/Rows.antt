@@ -5,19 +5,19 @@ use mathlib.Core.List.{List}
 use mathlib.Core.Path.{◌≡◌, refl, ap, ◌∙◌}
 use lib.Dec.{leb}
 use native.Mathlib.Omega.{arith}
-use borrow.Author.Tests.{le-leb, lt-leb}
-use Rattle.rules.specs.declared.Head.{Head}
-use Rattle.rules.specs.declared.Head.TheVariants.{Tlv, Past}
+use borrow.Author.Tests.{le-leb, lt-leb, leb-true}
 use Rattle.rules.specs.Tlv.{head_at}
 use Rattle.rules.specs.Tlvs.{Tlvs, done, past, tlv, row, tlvs_up_to, tlvs}
 use Rattle.leaf.proofs.Cases.{both, tests}
-use Rattle.tlv.proofs.Bounds.{HeadIn, head_in}
+use Rattle.tlv.proofs.Bounds.{HeadIn, head_in, head_tlv}
+use Rattle.std.specs.Prelude.{Option, Some, None}
+use Rattle.rules.specs.declared.Tlv.{Tlv}
 
 -- two ways to go on that agree after the place give the same row
-row_same : (k l : ℕ → Tlvs) (at end : ℕ) (h : Head) → HeadIn at end h → ((p : ℕ) → at < p → p ≤ end → k p ≡ l p) → row k at h ≡ row l at h
+row_same : (k l : ℕ → Tlvs) (at end : ℕ) (h : Option Tlv) → HeadIn at end h → ((p : ℕ) → at < p → p ≤ end → k p ≡ l p) → row k at h ≡ row l at h
 unfolding row
-row_same k l at end (Tlv tag start stop) w same = ap (tlv tag at start stop) (same stop (omega arith) (omega arith))
-row_same k l at end Past w same = refl
+row_same k l at end (Some h) w same = ap (tlv h.tag at h.start h.stop) (same h.stop (omega arith) (omega arith))
+row_same k l at end None w same = refl
 
 enough : (n m gap : ℕ) (s : List ℕ) (at end : ℕ) → end - at ≤ n → end - at ≤ m → tlvs_up_to n gap s at end ≡ tlvs_up_to m gap s at end
 unfolding tlvs_up_to
@@ -38,11 +38,11 @@ module _ (gap : ℕ) (s : List ℕ) (at end : ℕ) where
       enough (end - at) (suc (end - at)) gap s at end (omega arith) (omega arith)
       ∙ simp (lt-leb (end - at) gap h) (row_same _ _ (at + gap) end (head_at s (at + gap) end) (head_in s (at + gap) end) (λ p after within. enough (end - at) (end - p) gap s p end (omega arith) (omega arith)))
 
-  pub tlvs_tlv : {tag start stop : ℕ} → gap < end - at → head_at s (at + gap) end ≡ Tlv tag start stop → tlvs gap s at end ≡ tlv tag (at + gap) start stop (tlvs gap s stop end)
+  pub tlvs_tlv : {v : Tlv} → gap < end - at → head_at s (at + gap) end ≡ Some v → tlvs gap s at end ≡ tlv v.tag (at + gap) v.start v.stop (tlvs gap s v.stop end)
   unfolding row
   tlvs_tlv h e = tlvs_more h ∙ simp e
 
-  pub tlvs_past : gap < end - at → head_at s (at + gap) end ≡ Past → tlvs gap s at end ≡ past (at + gap)
+  pub tlvs_past : gap < end - at → head_at s (at + gap) end ≡ None → tlvs gap s at end ≡ past (at + gap)
   unfolding row
   tlvs_past h e = tlvs_more h ∙ simp e
 
@@ -54,10 +54,18 @@ module _ (s : List ℕ) (at end : ℕ) where
   pub row_done : end ≤ at → tlvs 0 s at end ≡ done at
   row_done h = tlvs_done 0 s at end (omega arith)
 
-  pub row_tlv : {tag start stop : ℕ} → at < end → head_at s at end ≡ Tlv tag start stop → tlvs 0 s at end ≡ tlv tag at start stop (tlvs 0 s stop end)
-  row_tlv {tag} {start} {stop} h e =
-      let e' : head_at s (at + 0) end ≡ Tlv tag start stop = rw here e in
+  pub row_tlv : {v : Tlv} → at < end → head_at s at end ≡ Some v → tlvs 0 s at end ≡ tlv v.tag at v.start v.stop (tlvs 0 s v.stop end)
+  row_tlv {v} h e =
+      let e' : head_at s (at + 0) end ≡ Some v = rw here e in
       rw here at (tlvs_tlv 0 s at end (omega arith) e')
 
-  pub row_past : at < end → head_at s at end ≡ Past → tlvs 0 s at end ≡ past at
+  pub row_past : at < end → head_at s at end ≡ None → tlvs 0 s at end ≡ past at
   row_past h e = rw here at (tlvs_past 0 s at end (omega arith) (rw here e))
+
+  -- the same without a test of the place: a TLV stands there, or none does, at the end or before it
+  pub row_next : {v : Tlv} → head_at s at end ≡ Some v → tlvs 0 s at end ≡ tlv v.tag at v.start v.stop (tlvs 0 s v.stop end)
+  row_next e = let b = head_tlv s at end e in row_tlv (omega arith) e
+
+  pub row_ends : {A : Type 0} (f : Tlvs → A) {a : A} → head_at s at end ≡ None → f (done at) ≡ a → f (past at) ≡ a → f (tlvs 0 s at end) ≡ a
+  row_ends f e d p =
+      both (leb end at) (λ t. ap f (row_done (leb-true end at t)) ∙ d) (λ t. ap f (row_past (omega tests) e) ∙ p)

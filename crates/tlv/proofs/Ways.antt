@@ -3,45 +3,42 @@
 use Prim.Native.Nat.{ℕ, suc, ◌+◌, ◌-◌, ◌≤◌, ◌<◌, ◌%◌}
 use mathlib.Core.Bool.{Bool, true, false}
 use mathlib.Core.List.{List}
-use mathlib.Core.Path.{◌≡◌, sym, ◌∙◌}
+use mathlib.Core.Path.{◌≡◌, refl, sym, ◌∙◌}
 use native.Mathlib.Omega.{arith}
 use lib.ListN.{get_or}
 use borrow.Author.Tests.{lt-ltb, le-ltb, le-leb, lt-leb, eq-eqb, ne_eqb}
-use Rattle.rules.specs.declared.Length.{Length}
-use Rattle.rules.specs.declared.Length.TheVariants.{Got, Bad}
-use Rattle.rules.specs.declared.Head.{Head}
-use Rattle.rules.specs.declared.Head.TheVariants.{Tlv, Past}
 use Rattle.rules.specs.declared.Pair.{Pair}
 use Rattle.rules.specs.declared.Pair.TheVariants.{Text, Number, Broken}
-use Rattle.rules.specs.declared.Spot.{Spot}
-use Rattle.rules.specs.declared.Spot.TheVariants.{After, Cut}
 use Rattle.rules.specs.Tlv.{length_at, head_at, head_of}
 use Rattle.rules.specs.Tlvs.{tlvs, plain, count_in}
 use Rattle.rules.specs.Pieces.{indicates, text_of, pair_at, pieces, filled}
 use Rattle.rules.specs.Shape.{attributes_in}
 use Rattle.tlv.proofs.Bounds.{length_got}
-use Rattle.tlv.proofs.Rows.{row_done, row_tlv, row_past}
+use Rattle.tlv.proofs.Rows.{row_next, row_ends}
 use Rattle.tlv.proofs.PairRows.{pieces_full, pieces_text, pieces_variable, pieces_cut}
+use Rattle.std.specs.Prelude.{Option, Some, None}
+use Rattle.rules.specs.declared.Tlv.{Tlv}
+use Rattle.rules.specs.Built.{some_tlv}
 
 module _ (s : List ℕ) (at end : ℕ) where
-  pub head_none : end ≤ at → Past ≡ head_at s at end
+  pub head_none : end ≤ at → None ≡ head_at s at end
   unfolding head_at
   head_none h = simp (le-leb end at h)
 
-  module _ (h : at < end) (l : Length) (f : l ≡ length_at s (at + 1) end) where
-    pub head_bad : l ≡ Bad → Past ≡ head_at s at end
+  module _ (h : at < end) (l : Option (ℕ × ℕ)) (f : l ≡ length_at s (at + 1) end) where
+    pub head_bad : l ≡ None → None ≡ head_at s at end
     unfolding head_at head_of
     head_bad y = simp (lt-leb end at h, sym f ∙ y)
 
-    module _ (n start : ℕ) (y : l ≡ Got n start) where
+    module _ (n start : ℕ) (y : l ≡ Some (n, start)) where
       pub head_inside : start ≤ end
       head_inside = let b = length_got s (at + 1) end (sym f ∙ y) in omega arith
 
-      pub head_over : end - start < n → Past ≡ head_at s at end
+      pub head_over : end - start < n → None ≡ head_at s at end
       unfolding head_at head_of
       head_over z = simp (lt-leb end at h, sym f ∙ y, lt-ltb _ _ z)
 
-      pub head_fits : n ≤ end - start → Tlv (get_or s at 0) start (start + n) ≡ head_at s at end
+      pub head_fits : n ≤ end - start → some_tlv (get_or s at 0) start (start + n) ≡ head_at s at end
       unfolding head_at head_of
       head_fits z = simp (lt-leb end at h, sym f ∙ y, le-ltb _ _ z)
 
@@ -62,12 +59,12 @@ module _ (substituted : Bool) (s : List ℕ) (at end : ℕ) where
       unfolding pair_at
       pair_variable y = simp (lt-leb end at h, sym e ∙ x, le-ltb _ _ y)
 
-    module _ (x : v ≡ false) (l : Length) (f : l ≡ length_at s at end) where
-      pub pair_bad : l ≡ Bad → Broken ≡ pair_at substituted s at end
+    module _ (x : v ≡ false) (l : Option (ℕ × ℕ)) (f : l ≡ length_at s at end) where
+      pub pair_bad : l ≡ None → Broken ≡ pair_at substituted s at end
       unfolding pair_at text_of
       pair_bad y = simp (lt-leb end at h, sym e ∙ x, sym f ∙ y)
 
-      module _ (n from : ℕ) (y : l ≡ Got n from) where
+      module _ (n from : ℕ) (y : l ≡ Some (n, from)) where
         pub pair_inside : from ≤ end
         pair_inside = let b = length_got s at end (sym f ∙ y) in omega arith
 
@@ -104,8 +101,8 @@ module _ (substituted : Bool) (s : List ℕ) (at end : ℕ) (w : Bool) (inv : fi
 
 pub ruleset fill_laws = (fill_done, fill_cut, fill_text, fill_number)
 
-module _ (s : List ℕ) (at end : ℕ) (w : Spot) (inv : attributes_in (end - at) s at ≡ w) where
-  pub attributes_cut : end ≤ at → Cut ≡ w
+module _ (s : List ℕ) (at end : ℕ) (w : Option ℕ) (inv : attributes_in (end - at) s at ≡ w) where
+  pub attributes_cut : end ≤ at → None ≡ w
   unfolding attributes_in
   attributes_cut h = sym (let e : end - at ≡ 0 = omega arith in rw e) ∙ inv
 
@@ -113,7 +110,7 @@ module _ (s : List ℕ) (at end : ℕ) (w : Spot) (inv : attributes_in (end - at
     one_more_lem : end - at ≡ suc (end - (at + 1))
     one_more_lem = omega arith
 
-    pub attributes_last : get_or s at 0 < 128 → After (at + 1) ≡ w
+    pub attributes_last : get_or s at 0 < 128 → Some (at + 1) ≡ w
     unfolding attributes_in
     attributes_last t = sym (simp (one_more_lem, lt-ltb _ _ t)) ∙ inv
 
@@ -124,22 +121,18 @@ module _ (s : List ℕ) (at end : ℕ) (w : Spot) (inv : attributes_in (end - at
 pub ruleset attribute_laws = (attributes_cut, attributes_last, attributes_more)
 
 module _ (tag : ℕ) (s : List ℕ) (at end n w : ℕ) (inv : count_in tag n (tlvs 0 s at end) ≡ w) where
-  pub count_done : end ≤ at → n ≡ w
-  unfolding count_in
-  count_done h = sym (simp (row_done s at end h)) ∙ inv
-
-  module _ (h : at < end) (r : Head) (is : r ≡ head_at s at end) where
-    pub count_past : r ≡ Past → n ≡ w
+  module _ (r : Option Tlv) (is : r ≡ head_at s at end) where
+    pub count_ends : r ≡ None → n ≡ w
     unfolding count_in
-    count_past x = sym (simp (row_past s at end h (sym is ∙ x))) ∙ inv
+    count_ends x = sym (row_ends s at end (count_in tag n) (sym is ∙ x) refl refl) ∙ inv
 
-    module _ (t start stop : ℕ) (x : r ≡ Tlv t start stop) where
-      pub count_this : t % 128 ≡ tag → count_in tag (n + 1) (tlvs 0 s stop end) ≡ w
+    module _ (v : Tlv) (x : r ≡ Some v) where
+      pub count_this : v.tag % 128 ≡ tag → count_in tag (n + 1) (tlvs 0 s v.stop end) ≡ w
       unfolding count_in plain
-      count_this y = sym (simp (row_tlv s at end h (sym is ∙ x), eq-eqb _ _ y)) ∙ inv
+      count_this y = sym (simp (row_next s at end (sym is ∙ x), eq-eqb _ _ y)) ∙ inv
 
-      pub count_other : (t % 128 ≡ tag → ⊥) → count_in tag n (tlvs 0 s stop end) ≡ w
+      pub count_other : (v.tag % 128 ≡ tag → ⊥) → count_in tag n (tlvs 0 s v.stop end) ≡ w
       unfolding count_in plain
-      count_other y = sym (simp (row_tlv s at end h (sym is ∙ x), ne_eqb _ _ y)) ∙ inv
+      count_other y = sym (simp (row_next s at end (sym is ∙ x), ne_eqb _ _ y)) ∙ inv
 
-pub ruleset count_laws = (count_done, count_past, count_this, count_other)
+pub ruleset count_laws = (count_ends, count_this, count_other)

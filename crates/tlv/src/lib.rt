@@ -8,66 +8,57 @@ ghost use Rattle.rules.specs.Pieces.{indicates, pair_at, pieces, filled};
 ghost use Rattle.rules.specs.Shape.{attributes_in, attributes_end, attribute};
 ghost use Rattle.rules.specs.Page.{content_at};
 
-use rules::{Head, Length, Pair, Spot};
+use rules::{Pair, Tlv};
 
 // The length at a place, before an end.
-pub fn length_at(s: &[u8], at: usize, end: usize) -> Length
+#[tactic(auto, unfolding(rules::specs::Tlv::length_at))]
+pub fn length_at(s: &[u8], at: usize, end: usize) -> Option<(usize, usize)>
     requires { end ≤ length s.now }
     ensures { result ≡ length_at s.now at end }
 {
     if end <= at {
-        return Length::Bad;
+        return None;
     }
-    let b = s[at];
-    if b < 0x80 {
-        return Length::Got(leaf::wide(b), at + 1);
+    match s[at] {
+        n @ 0x00..=0x7F => Some((leaf::wide(n), at + 1)),
+        0x81 if 2 <= end - at => Some((leaf::wide(s[at + 1]), at + 2)),
+        0x82 if 3 <= end - at => Some((leaf::pair(s[at + 1], s[at + 2]), at + 3)),
+        _ => None,
     }
-    if b == 0x81 {
-        if end - at < 2 {
-            return Length::Bad;
-        }
-        return Length::Got(leaf::wide(s[at + 1]), at + 2);
-    }
-    if b == 0x82 {
-        if end - at < 3 {
-            return Length::Bad;
-        }
-        return Length::Got(leaf::pair(s[at + 1], s[at + 2]), at + 3);
-    }
-    Length::Bad
 }
 
 // The TLV at a place, before an end.
-pub fn head_at(s: &[u8], at: usize, end: usize) -> Head
+#[tactic(auto, using(crate::proofs::Ways::head_laws))]
+pub fn head_at(s: &[u8], at: usize, end: usize) -> Option<Tlv>
     requires { end ≤ length s.now }
     ensures { result ≡ head_at s.now at end }
 {
     if end <= at {
-        return Head::Past;
+        return None;
     }
-    let Length::Got(n, start) = length_at(s, at + 1, end) else {
-        return Head::Past;
+    let Some((n, start)) = length_at(s, at + 1, end) else {
+        return None;
     };
     if end - start < n {
-        return Head::Past;
+        return None;
     }
-    Head::Tlv(s[at], start, start + n)
+    Some(Tlv {
+        tag: s[at],
+        start,
+        stop: start + n,
+    })
 }
 
 // A variable's number follows this byte, where pairs are substitution pairs (clause 6.3).
+#[tactic(auto, unfolding(rules::specs::Pieces::indicates))]
 fn indicates(substituted: bool, b: u8) -> bool
     ensures { result ≡ indicates substituted b }
 {
-    if substituted {
-        if b < 0xC0 {
-            return false;
-        }
-        return b < 0xC8;
-    }
-    false
+    substituted && matches!(b, 0xC0..=0xC7)
 }
 
 // The pair at a place, before an end.
+#[tactic(auto, using(crate::proofs::Ways::pair_laws))]
 pub fn pair_at(substituted: bool, s: &[u8], at: usize, end: usize) -> Pair
     requires { end ≤ length s.now }
     ensures { result ≡ pair_at substituted s.now at end }
@@ -81,7 +72,7 @@ pub fn pair_at(substituted: bool, s: &[u8], at: usize, end: usize) -> Pair
         }
         return Pair::Number(s[at + 1], at + 2);
     }
-    let Length::Got(n, from) = length_at(s, at, end) else {
+    let Some((n, from)) = length_at(s, at, end) else {
         return Pair::Broken;
     };
     if end - from < n {
@@ -91,94 +82,82 @@ pub fn pair_at(substituted: bool, s: &[u8], at: usize, end: usize) -> Pair
 }
 
 // The pairs from a place on fill a value up to its end.
+#[tactic(auto, using(crate::proofs::Ways::fill_laws, crate::proofs::Bounds::shorter_laws))]
 pub fn pairs_fill(substituted: bool, s: &[u8], from: usize, end: usize) -> bool
     requires { end ≤ length s.now }
     ensures { result ≡ filled (pieces substituted s.now from end) }
 {
     let mut at = from;
     while at < end {
-        let pair = pair_at(substituted, s, at, end);
-        match pair {
-            Pair::Text(_, to) => {
-                at = to;
-            }
-            Pair::Number(_, next) => {
-                at = next;
-            }
-            Pair::Broken => {
-                return false;
-            }
-        }
+        at = match pair_at(substituted, s, at, end) {
+            Pair::Text(_, next) | Pair::Number(_, next) => next,
+            Pair::Broken => return false,
+        };
     }
     true
 }
 
 // The place after the attribute bytes that stand from a place on.
-fn attributes_in(s: &[u8], from: usize, end: usize) -> Spot
+#[tactic(auto, using(crate::proofs::Ways::attribute_laws))]
+fn attributes_in(s: &[u8], from: usize, end: usize) -> Option<usize>
     requires { end ≤ length s.now }
     ensures { result ≡ attributes_in (end - from) s.now from }
 {
-    let mut at = from;
-    while at < end {
+    for at in from..end {
         if s[at] < 0x80 {
-            return Spot::After(at + 1);
+            return Some(at + 1);
         }
-        at += 1;
     }
-    Spot::Cut
+    None
 }
 
 // The place after the attribute bytes of a value.
-pub fn attributes_end(s: &[u8], tag: u8, start: usize, stop: usize) -> Spot
-    requires { stop ≤ length s.now }
-    ensures { result ≡ attributes_end s.now tag start stop }
+#[tactic(auto, unfolding(rules::specs::Shape::attributes_end))]
+pub fn attributes_end(s: &[u8], tlv: Tlv) -> Option<usize>
+    requires { tlv.stop ≤ length s.now }
+    ensures { result ≡ attributes_end s.now tlv.tag tlv.start tlv.stop }
 {
-    if tag < 0x80 {
-        return Spot::After(start);
+    if tlv.tag < 0x80 {
+        Some(tlv.start)
+    } else {
+        attributes_in(s, tlv.start, tlv.stop)
     }
-    attributes_in(s, start, stop)
 }
 
 // The first attribute byte of a value, 0 where there is none.
-pub fn attribute_of(s: &[u8], tag: u8, start: usize, stop: usize) -> u8
-    requires { stop ≤ length s.now }
-    ensures { result ≡ attribute s.now tag start stop }
+#[tactic(auto, unfolding(rules::specs::Shape::attribute))]
+pub fn attribute_of(s: &[u8], tlv: Tlv) -> u8
+    requires { tlv.stop ≤ length s.now }
+    ensures { result ≡ attribute s.now tlv.tag tlv.start tlv.stop }
 {
-    if tag < 0x80 {
+    if tlv.tag < 0x80 || tlv.stop <= tlv.start {
         return 0;
     }
-    if stop <= start {
-        return 0;
-    }
-    s[start]
+    s[tlv.start]
 }
 
 // Where a value goes on after its attributes: its end where they run past it.
-pub fn content_at(s: &[u8], tag: u8, start: usize, stop: usize) -> usize
-    requires { stop ≤ length s.now }
-    ensures { result ≡ content_at s.now tag start stop }
+#[tactic(auto, unfolding(rules::specs::Page::content_at, rules::specs::Page::spot_or))]
+pub fn content_at(s: &[u8], tlv: Tlv) -> usize
+    requires { tlv.stop ≤ length s.now }
+    ensures { result ≡ content_at s.now tlv.tag tlv.start tlv.stop }
 {
-    let Spot::After(p) = attributes_end(s, tag, start, stop) else {
-        return stop;
-    };
-    p
+    attributes_end(s, tlv).unwrap_or(tlv.stop)
 }
 
 // How many TLVs have a tag, with attributes or without.
+#[tactic(auto, using(crate::proofs::Bounds::next_laws, crate::proofs::Ways::count_laws), unfolding(rules::specs::Tlvs::count))]
 pub fn count_tag(s: &[u8], tag: u8, from: usize, end: usize) -> usize
     requires { end ≤ length s.now }
     ensures { result ≡ count tag (tlvs 0 s.now from end) }
 {
     let mut at = from;
     let mut n: usize = 0;
-    while at < end {
-        let Head::Tlv(t, _, stop) = head_at(s, at, end) else {
-            return n;
-        };
-        if t % 128 == tag {
+    while let Some(tlv) = head_at(s, at, end) {
+        if tlv.tag % 128 == tag {
             n += 1;
         }
-        at = stop;
+        at = tlv.stop;
     }
     n
 }

@@ -1,57 +1,43 @@
 -- The test of number 35 on the history, entry by entry.
 -- Assumes nothing.
-use Prim.Native.Nat.{ℕ, ◌+◌, ◌-◌, ◌*◌, ◌≤◌, ◌<◌}
+use Prim.Native.Nat.{ℕ, ◌+◌, ◌-◌, ◌*◌, ◌/◌, ◌≤◌, ◌<◌}
 use mathlib.Core.Bool.{Bool, true, false, cond}
-use mathlib.Core.List.{List}
+use mathlib.Core.List.{List, []}
 use mathlib.Core.Path.{◌≡◌, refl, sym, ap, ◌∙◌}
 use native.Mathlib.Omega.{arith}
 use lib.ListN.{length, get_or, take, drop, length-drop}
-use lib.Seq.{take_all, drop-drop}
+use lib.Seq.{take_all, drop-drop, length-take-le}
 use lib.Dec.{leb, eqb}
 use borrow.Author.Tests.{eq-eqb, le-leb, lt-leb}
 use Rattle.leaf.proofs.Cases.{both}
 use Rattle.pour.specs.Pour.{zeros}
 use Rattle.pour.specs.Stride.{each, all}
-use Rattle.pour.proofs.StrideLaws.{length_each, each_take, each_both, false_both, all_done, all_more, all_less}
+use Rattle.pour.proofs.StrideLaws.{length_each, each_take, each_front, each_both, false_both, all_by}
 use Rattle.rules.specs.Reference.{mark}
 use Rattle.rules.specs.IsCard.{within, entry_by, entries_fine, history_fine}
-use Rattle.rules.specs.declared.Spot.{Spot}
-use Rattle.rules.specs.declared.Spot.TheVariants.{After, Cut}
 use Rattle.word.specs.Word.{word_in, tidy_word}
 use Rattle.trail.specs.Trail.{history_of, tidy_trail, sound_entry, sound_trail}
+use Rattle.std.specs.Prelude.{Option, Some, None, IsTrue, ◌↔◌, EachIndex}
+use Rattle.std.specs.Simd.{first_chunks}
 
-module _ (e : List ℕ) (m : Spot) (f : m ≡ mark e) where
-  pub split_none : m ≡ Cut → false ≡ entry_by (length e) (mark e)
+module _ (e : List ℕ) (m : Option ℕ) (f : m ≡ mark e) where
+  pub split_none : m ≡ None → false ≡ entry_by (length e) (mark e)
   unfolding entry_by
   split_none g = rw (← f, g)
 
-  module _ (n : ℕ) (g : m ≡ After n) where
+  module _ (n : ℕ) (g : m ≡ Some n) where
     split_is : entry_by (length e) (mark e) ≡ cond (within 1 32 n) (within 1 32 (length e - (n + 1))) false
     unfolding entry_by
     split_is = rw (← f, g)
 
-    pub split_first : n < 1 → false ≡ entry_by (length e) (mark e)
-    unfolding within
-    split_first h = sym (split_is ∙ simp (lt-leb _ _ h))
+    module _ (b : Bool) (h : b ≡ within 1 32 n) where
+      pub split_page : b ≡ false → false ≡ entry_by (length e) (mark e)
+      split_page i = sym (split_is ∙ rw (← h, i))
 
-    module _ (h : 1 ≤ n) where
-      pub split_page : 32 < n → false ≡ entry_by (length e) (mark e)
-      unfolding within
-      split_page i = sym (split_is ∙ simp (le-leb _ _ h, lt-leb _ _ i))
+      pub split_anchor : b ≡ true → (d : Bool) → d ≡ within 1 32 (length e - (n + 1)) → d ≡ entry_by (length e) (mark e)
+      split_anchor i d j = j ∙ sym (split_is ∙ rw (← h, i))
 
-      module _ (i : n ≤ 32) where
-        pub split_last : length e < n + 2 → false ≡ entry_by (length e) (mark e)
-        unfolding within
-        split_last j = let k : length e - (n + 1) < 1 = omega arith in sym (split_is ∙ simp (le-leb _ _ h, le-leb _ _ i, lt-leb _ _ k))
-
-        module _ (j : n + 2 ≤ length e) where
-          pub split_anchor : 32 < length e - (n + 1) → false ≡ entry_by (length e) (mark e)
-          unfolding within
-          split_anchor k = let o : 1 ≤ length e - (n + 1) = omega arith in sym (split_is ∙ simp (le-leb _ _ h, le-leb _ _ i, le-leb _ _ o, lt-leb _ _ k))
-
-          pub split_fine : length e - (n + 1) ≤ 32 → true ≡ entry_by (length e) (mark e)
-          unfolding within
-          split_fine k = let o : 1 ≤ length e - (n + 1) = omega arith in sym (split_is ∙ simp (le-leb _ _ h, le-leb _ _ i, le-leb _ _ o, le-leb _ _ k))
+pub ruleset split_laws = (split_none, split_page, split_anchor)
 
 module _ (p : List ℕ) (t : Bool) (e : t ≡ tidy_word p) where
   pub entry_untidy : t ≡ false → false ≡ sound_entry p
@@ -101,4 +87,10 @@ module _ (a : List ℕ) (n : ℕ) (e : n ≡ get_or a 0 0) where
           let t : take 1056 (drop 2 a) ≡ drop 2 a = take_all 1056 (drop 2 a) (simp length-drop (omega arith)) in
           k ∙ rw t (sym (sound_is ∙ rw j))
 
-pub ruleset fine_laws = (split_none, split_first, split_page, split_last, split_anchor, split_fine, entry_untidy, entry_is, all_done, all_more, all_less, history_long, history_pointer, history_rest, history_entries)
+pub entries_by : (n : ℕ) (a : List ℕ) → n * 66 ≤ length a → (ps : List (List ℕ)) → ps ≡ first_chunks 66 (length (take (n * 66) a) / 66) (take (n * 66) a) → (r : Bool) → (IsTrue r ↔ EachIndex ps (λ k. IsTrue (sound_entry (get_or ps k [])))) → r ≡ all (each sound_entry n 66 a)
+entries_by n a h ps e r i =
+    let l : length (take (n * 66) a) ≡ n * 66 = length-take-le (n * 66) a h in
+    let m : length (take (n * 66) a) / 66 ≡ n = omega arith in
+    all_by sound_entry n 66 (take (n * 66) a) ps (rw m at e) r i ∙ ap all (each_front sound_entry n 66 a)
+
+pub ruleset fine_laws = (entry_untidy, entry_is, history_long, history_pointer, history_rest, history_entries)

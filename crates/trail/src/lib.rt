@@ -5,93 +5,62 @@ ghost use Rattle.std.specs.Prelude.{◌≡◌, true, ◌++◌, ◌+◌, ◌*◌,
 ghost use Rattle.pour.specs.Stride.{each, all};
 ghost use Rattle.rules.specs.Trail.{pushed, topped, last, lowered};
 ghost use Rattle.rules.specs.Reference.{mark};
-ghost use Rattle.rules.specs.IsCard.{entry_by};
+ghost use Rattle.rules.specs.IsCard.{within, entry_by};
 ghost use Rattle.word.specs.Word.{laid_word};
 ghost use Rattle.trail.specs.Trail.{history_of, reach, laid_trail, pushed_trail, tidy_trail, sound_entry, sound_trail};
 
 use leaf::wide;
 use pour::{all_zero, copy, slide, wipe};
 use reference::mark;
-use rules::Spot;
 use word::{lay_word, word_fine, word_of};
 
 // How many entries there are.
+#[tactic(auto, using(crate::proofs::TrailLaws::trail_laws))]
 pub fn entry_count(trail: &[u8; 1058]) -> usize
     ensures { (result ≡ length (history_of trail.now).entries) × (result ≤ 16) }
 {
-    let n = wide(trail[0]);
-    if 16 < n {
-        return 16;
-    }
-    n
+    wide(trail[0]).min(16)
 }
 
 // How many entries can still be gone back to, by the pointer.
+#[tactic(auto, using(crate::proofs::TrailLaws::trail_laws))]
 pub fn pointer_of(trail: &[u8; 1058]) -> usize
     ensures { (result ≡ (history_of trail.now).pointer) × (result < 256) }
 {
     wide(trail[1])
 }
 
-// A number less one, where there is one to take.
-fn less_one(n: u8) -> u8
-    ensures { result ≡ n - 1 }
-{
-    if n == 0 {
-        return 0;
-    }
-    n - 1
-}
-
 // The entry at the pointer.
+#[tactic(auto, using(crate::proofs::TrailLaws::trail_laws))]
 pub fn last_entry(trail: &[u8; 1058]) -> &[u8]
     ensures { result.now ≡ last (history_of trail.now) }
 {
-    let n = entry_count(trail);
-    let k = wide(less_one(trail[1]));
-    let s = &trail[..];
-    if n <= k {
-        return &s[0..0];
+    let k = wide(trail[1].saturating_sub(1));
+    if entry_count(trail) <= k {
+        return &trail[..0];
     }
     let at = 2 + k * 66;
-    word_of(&s[at..at + 66])
-}
-
-fn point_to(s: &mut [u8], p: u8)
-    requires { length s.old ≡ 1058 }
-    ensures { s.new ≡ set s.old 1 p }
-{
-    s[1] = p;
+    word_of(&trail[at..at + 66])
 }
 
 // The pointer goes down by one.
+#[tactic(auto, using(crate::proofs::TrailLaws::trail_laws))]
 pub fn lower(trail: &mut [u8; 1058])
     ensures trail_after { trail.new ≡ set trail.old 1 (get_or trail.old 1 0 - 1) }
     ensures trail_after_2 { history_of trail.new ≡ lowered (history_of trail.old) }
     ensures trail_after_3 { tidy_trail trail.old ≡ true → tidy_trail trail.new ≡ true }
 {
-    let p = less_one(trail[1]);
-    point_to(trail, p);
+    trail[1] = trail[1].saturating_sub(1);
 }
 
 // The length of what a pointer reaches of a count of entries.
 fn reached(count: u8, pointer: u8) -> usize
     ensures { result ≡ min pointer (min count 16) }
 {
-    let n = wide(count);
-    let p = wide(pointer);
-    if p < n {
-        if p < 16 {
-            return p;
-        }
-        return 16;
-    }
-    if n < 16 {
-        return n;
-    }
-    16
+    wide(pointer).min(wide(count)).min(16)
 }
 
+#[tactic(auto, using(crate::proofs::CutLaws::cut_laws))]
 fn cut_to(s: &mut [u8], n: usize)
     requires { (length s.old ≡ 1058) × (n ≤ 16) }
     ensures { s.new ≡ laid_trail n (take (n * 66) (drop 2 s.old)) }
@@ -103,6 +72,7 @@ fn cut_to(s: &mut [u8], n: usize)
 }
 
 // The first n entries, and one more on top.
+#[tactic(auto, using(crate::proofs::CutLaws::cut_laws))]
 fn put_at(s: &mut [u8], n: usize, entry: &[u8])
     requires { (length s.old ≡ 1058) × (n < 16) × (length entry.now ≤ 65) }
     ensures { s.new ≡ laid_trail (n + 1) (take (n * 66) (drop 2 s.old) ++ laid_word 66 entry.now) }
@@ -116,19 +86,21 @@ fn put_at(s: &mut [u8], n: usize, entry: &[u8])
     wipe(&mut s[end..1058]);
 }
 
+#[tactic(auto, using(crate::proofs::CutLaws::cut_laws))]
 fn push_to(s: &mut [u8], n: usize, entry: &[u8])
     requires { (length s.old ≡ 1058) × (n ≤ 16) × (length entry.now ≤ 65) }
     ensures { s.new ≡ pushed_trail n s.old entry.now }
 {
     if n < 16 {
         put_at(s, n, entry);
-        return;
+    } else {
+        slide(&mut s[2..1058], 66);
+        put_at(s, 15, entry);
     }
-    slide(&mut s[2..1058], 66);
-    put_at(s, 15, entry);
 }
 
 // What lies above the pointer goes.
+#[tactic(auto, using(crate::proofs::TrailLaws::trail_laws))]
 pub fn drop_above(trail: &mut [u8; 1058])
     ensures trail_after { trail.new ≡ laid_trail (length (reach trail.old)) (take (length (reach trail.old) * 66) (drop 2 trail.old)) }
     ensures trail_after_2 { history_of trail.new ≡ topped (take (history_of trail.old).pointer (history_of trail.old).entries) }
@@ -139,6 +111,7 @@ pub fn drop_above(trail: &mut [u8; 1058])
 }
 
 // What lies above the pointer goes, an entry is added, the oldest of 17 goes, and the pointer is at the top.
+#[tactic(auto, using(crate::proofs::TrailLaws::trail_laws))]
 pub fn push(trail: &mut [u8; 1058], entry: &[u8])
     requires { length entry.now ≤ 65 }
     ensures trail_after { trail.new ≡ pushed_trail (length (reach trail.old)) trail.old entry.now }
@@ -149,69 +122,49 @@ pub fn push(trail: &mut [u8; 1058], entry: &[u8])
     push_to(trail, n, entry);
 }
 
+// A name of 1 to 32 bytes.
+#[tactic(auto, unfolding(rules::specs::IsCard::within))]
+fn length_fine(n: usize) -> bool
+    ensures { result ≡ within 1 32 n }
+{
+    1 <= n && n <= 32
+}
+
 // An entry is 1 to 32 bytes, '23', and 1 to 32 bytes without '23'.
+#[tactic(auto, using(crate::proofs::FineLaws::split_laws, reference::proofs::Marks::place_laws))]
 fn split_fine(entry: &[u8]) -> bool
     ensures { result ≡ entry_by (length entry.now) (mark entry.now) }
 {
-    let Spot::After(n) = mark(entry) else {
-        return false;
-    };
-    if n < 1 {
-        return false;
+    match mark(entry) {
+        Some(n) => length_fine(n) && length_fine(entry.len() - (n + 1)),
+        None => false,
     }
-    if 32 < n {
-        return false;
-    }
-    let size = entry.len();
-    if size < n + 2 {
-        return false;
-    }
-    if 32 < size - (n + 1) {
-        return false;
-    }
-    true
 }
 
+#[tactic(auto, using(crate::proofs::FineLaws::fine_laws))]
 fn entry_fine(piece: &[u8]) -> bool
     ensures { result ≡ sound_entry piece.now }
 {
-    if word_fine(piece) {
-        return split_fine(word_of(piece));
-    }
-    false
+    word_fine(piece) && split_fine(word_of(piece))
 }
 
 fn entries_fine(body: &[u8], n: usize) -> bool
     requires { (length body.now ≡ 1056) × (n ≤ 16) }
     ensures { result ≡ all (each sound_entry n 66 body.now) }
 {
-    let mut k: usize = 0;
-    while k < n {
-        let at = k * 66;
-        if entry_fine(&body[at..at + 66]) {
-            k = k + 1;
-        } else {
-            return false;
-        }
-    }
-    true
+    let used = &body[..n * 66];
+    let (pieces, _) = used.as_chunks::<66>();
+    pieces.iter().all(|piece| entry_fine(piece))
 }
 
 // The history in canonical form, with entries that a card may have (number 35).
+#[tactic(auto, using(crate::proofs::FineLaws::fine_laws))]
 pub fn history_fine(trail: &[u8; 1058]) -> bool
     ensures { result ≡ sound_trail trail.now }
 {
-    let s = &trail[..];
-    let n = wide(s[0]);
-    if 16 < n {
+    let n = wide(trail[0]);
+    if 16 < n || n < wide(trail[1]) {
         return false;
     }
-    if n < wide(s[1]) {
-        return false;
-    }
-    let end = 2 + n * 66;
-    if all_zero(&s[end..1058]) {
-        return entries_fine(&s[2..1058], n);
-    }
-    false
+    all_zero(&trail[2 + n * 66..]) && entries_fine(&trail[2..], n)
 }

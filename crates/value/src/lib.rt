@@ -6,180 +6,114 @@ ghost use Rattle.rules.specs.Bytes.{among};
 ghost use Rattle.rules.specs.Store.{reading};
 ghost use Rattle.rules.specs.Value.{pieces_of, defined, complaint, joined};
 ghost use Rattle.pour.specs.Pour.{poured};
-ghost use Rattle.variable.specs.View.{view};
+ghost use Rattle.variable.specs.View.{viewed};
 ghost use Rattle.piece.specs.Piece.{pieces_from};
 ghost use Rattle.value.specs.Into.{into};
 
-use rules::{Complaint, Pair};
+use rules::{Complaint, Pair, Tlv};
+use variable::View;
 
 // What is wrong with a variable of a value; a known number counts as defined.
-fn told<'a>(
-    page: &'a [u8],
-    env: &'a [u8; 16640],
-    temp: &'a [u8; 16640],
-    perm: &'a [u8; 17920],
-    known: &'a [u8],
-    n: u8,
-) -> Complaint
-    ensures { result ≡ defined (among known.now n) (reading (view page.now env.now temp.now perm.now) n) }
+#[tactic(auto, using(crate::proofs::ComplaintLaws::told_laws))]
+fn told(view: View, known: &[u8], n: u8) -> Complaint
+    ensures { result ≡ defined (among known.now n) (reading (viewed view.entry) n) }
 {
-    let one = variable::reading(page, env, temp, perm, n);
-    match one {
-        Complaint::Nothing => Complaint::Nothing,
-        Complaint::Undefined => {
-            if leaf::among_bytes(known, n) {
-                return Complaint::Nothing;
-            }
-            Complaint::Undefined
-        }
-        Complaint::Secured => Complaint::Secured,
-        Complaint::Misused => Complaint::Misused,
+    match variable::reading(view, n) {
+        Complaint::Undefined if leaf::among_bytes(known, n) => Complaint::Nothing,
+        other => other,
     }
 }
 
 // The worst complaint about the variables of a value.
-pub fn complaint_from<'a>(
-    page: &'a [u8],
-    env: &'a [u8; 16640],
-    temp: &'a [u8; 16640],
-    perm: &'a [u8; 17920],
-    known: &'a [u8],
-    list: bool,
-    from: usize,
-    end: usize,
-) -> Complaint
-    requires { end ≤ length page.now }
-    ensures { result ≡ complaint (view page.now env.now temp.now perm.now) known.now (pieces_from list page.now from end) }
+#[tactic(auto, using(crate::proofs::ComplaintLaws::complaint_laws, piece::proofs::PieceLaws::less_laws))]
+pub fn complaint_from(view: View, known: &[u8], list: bool, from: usize, end: usize) -> Complaint
+    requires { end ≤ length view.page.now }
+    ensures { result ≡ complaint (viewed view.entry) known.now (pieces_from list view.entry.page.now from end) }
 {
     let mut at = from;
     let mut worst = Complaint::Nothing;
     while at < end {
-        let pair = piece::piece_at(list, page, at, end);
-        match pair {
-            Pair::Text(_, to) => {
-                at = to;
-            }
+        match piece::piece_at(list, view.page, at, end) {
+            Pair::Text(_, next) => at = next,
             Pair::Number(n, next) => {
-                let one = told(page, env, temp, perm, known, n);
-                worst = variable::worse(worst, one);
+                worst = variable::worse(worst, told(view, known, n));
                 at = next;
             }
-            Pair::Broken => {
-                return worst;
-            }
+            Pair::Broken => return worst,
         }
     }
     worst
 }
 
 // The length of a value.
-pub fn length_from<'a>(
-    page: &'a [u8],
-    env: &'a [u8; 16640],
-    temp: &'a [u8; 16640],
-    perm: &'a [u8; 17920],
-    list: bool,
-    from: usize,
-    end: usize,
-) -> usize
-    requires { (end ≤ length page.now) × (length page.now ≤ 4096) }
-    ensures { (result ≡ length (joined (view page.now env.now temp.now perm.now) (pieces_from list page.now from end))) × (result ≤ 17821696) }
+#[tactic(auto, using(crate::proofs::LengthLaws::length_laws, piece::proofs::PieceLaws::less_laws))]
+pub fn length_from(view: View, list: bool, from: usize, end: usize) -> usize
+    requires { (end ≤ length view.page.now) × (length view.page.now ≤ 4096) }
+    ensures { (result ≡ length (joined (viewed view.entry) (pieces_from list view.entry.page.now from end))) × (result ≤ 17821696) }
 {
     let mut at = from;
     let mut sum: usize = 0;
     while at < end {
-        let pair = piece::piece_at(list, page, at, end);
-        match pair {
+        match piece::piece_at(list, view.page, at, end) {
             Pair::Text(start, stop) => {
-                sum = sum + (stop - start);
+                sum += stop - start;
                 at = stop;
             }
             Pair::Number(n, next) => {
-                let value = variable::value_of(page, env, temp, perm, n);
-                sum = sum + value.len();
+                sum += variable::value_of(view, n).len();
                 at = next;
             }
-            Pair::Broken => {
-                return sum;
-            }
+            Pair::Broken => return sum,
         }
     }
     sum
 }
 
 // A value, poured into out from a place on.
-pub fn join_from<'a>(
-    page: &'a [u8],
-    env: &'a [u8; 16640],
-    temp: &'a [u8; 16640],
-    perm: &'a [u8; 17920],
-    list: bool,
-    from: usize,
-    end: usize,
-    out: &mut [u8],
-    place: usize,
-)
-    requires { (end ≤ length page.now) × (place + length (joined (view page.now env.now temp.now perm.now) (pieces_from list page.now from end)) ≤ length out.old) }
-    ensures { out.new ≡ poured out.old place (joined (view page.now env.now temp.now perm.now) (pieces_from list page.now from end)) }
+#[tactic(auto, using(crate::proofs::JoinLaws::join_laws, piece::proofs::PieceLaws::less_laws))]
+pub fn join_from(view: View, list: bool, from: usize, end: usize, out: &mut [u8], place: usize)
+    requires { (end ≤ length view.page.now) × (place + length (joined (viewed view) (pieces_from list view.page.now from end)) ≤ length out.old) }
+    ensures { out.new ≡ poured out.old place (joined (viewed view.entry) (pieces_from list view.entry.page.now from end)) }
 {
     let mut at = from;
     let mut n = place;
     while at < end {
-        let pair = piece::piece_at(list, page, at, end);
-        match pair {
+        match piece::piece_at(list, view.page, at, end) {
             Pair::Text(start, stop) => {
-                n = build::append(out, n, slice::part_of(page, start, stop));
+                n = build::append(out, n, slice::part_of(view.page, start, stop));
                 at = stop;
             }
             Pair::Number(number, next) => {
-                n = build::append(out, n, variable::value_of(page, env, temp, perm, number));
+                n = build::append(out, n, variable::value_of(view, number));
                 at = next;
             }
-            Pair::Broken => {
-                return;
-            }
+            Pair::Broken => return,
         }
     }
 }
 
 // The worst complaint about the variables of an Inline Value or of a list.
-pub fn complaint_of<'a>(
-    page: &'a [u8],
-    env: &'a [u8; 16640],
-    temp: &'a [u8; 16640],
-    perm: &'a [u8; 17920],
-    known: &'a [u8],
-    tag: u8,
-    start: usize,
-    stop: usize,
-) -> Complaint
-    requires { stop ≤ length page.now }
-    ensures { result ≡ complaint (view page.now env.now temp.now perm.now) known.now (pieces_of page.now tag start stop) }
+#[tactic(auto, using(crate::proofs::TagLaws::tag_laws))]
+pub fn complaint_of(view: View, known: &[u8], tlv: Tlv) -> Complaint
+    requires { tlv.stop ≤ length view.page.now }
+    ensures { result ≡ complaint (viewed view.entry) known.now (pieces_of view.entry.page.now tlv.tag tlv.start tlv.stop) }
 {
-    let from = piece::contents_at(page, tag, start, stop);
-    complaint_from(page, env, temp, perm, known, tag == 0x0D, from, stop)
+    let from = piece::contents_at(view.page, tlv);
+    complaint_from(view, known, tlv.tag == 0x0D, from, tlv.stop)
 }
 
 // An Inline Value or the variables of a list together, put at the start of out where they have at most 255 bytes; their length.
-pub fn value_into<'a>(
-    page: &'a [u8],
-    env: &'a [u8; 16640],
-    temp: &'a [u8; 16640],
-    perm: &'a [u8; 17920],
-    tag: u8,
-    start: usize,
-    stop: usize,
-    out: &mut [u8; 256],
-) -> usize
-    requires { (stop ≤ length page.now) × (length page.now ≤ 4096) }
-    ensures { (result ≡ length (joined (view page.now env.now temp.now perm.now) (pieces_of page.now tag start stop))) × (out.new ≡ into out.old (joined (view page.now env.now temp.now perm.now) (pieces_of page.now tag start stop))) }
+#[tactic(auto, using(crate::proofs::TagLaws::tag_laws))]
+pub fn value_into(view: View, tlv: Tlv, out: &mut [u8; 256]) -> usize
+    requires { (tlv.stop ≤ length view.page.now) × (length view.page.now ≤ 4096) }
+    ensures { (result ≡ length (joined (viewed view.entry) (pieces_of view.entry.page.now tlv.tag tlv.start tlv.stop))) × (out.new ≡ into out.old (joined (viewed view.entry) (pieces_of view.entry.page.now tlv.tag tlv.start tlv.stop))) }
 {
-    let from = piece::contents_at(page, tag, start, stop);
-    let list = tag == 0x0D;
-    let n = length_from(page, env, temp, perm, list, from, stop);
+    let from = piece::contents_at(view.page, tlv);
+    let list = tlv.tag == 0x0D;
+    let n = length_from(view, list, from, tlv.stop);
     if 255 < n {
         return n;
     }
-    join_from(page, env, temp, perm, list, from, stop, out, 0);
+    join_from(view, list, from, tlv.stop, out, 0);
     n
 }

@@ -5,63 +5,50 @@ ghost use Rattle.std.specs.Prelude.{◌≡◌, ◌≤◌, length};
 ghost use Rattle.rules.specs.Bytes.{part};
 ghost use Rattle.rules.specs.Pieces.{named};
 ghost use Rattle.rules.specs.Value.{shared, inline_type, type_for};
-ghost use Rattle.variable.specs.View.{view};
+ghost use Rattle.variable.specs.View.{viewed};
+
+use rules::Tlv;
+use variable::View;
 
 // The type that all variables of a list share, else unknown.
-pub fn shared_type<'a>(
-    page: &'a [u8],
-    env: &'a [u8; 16640],
-    temp: &'a [u8; 16640],
-    perm: &'a [u8; 17920],
-    from: usize,
-    end: usize,
-) -> u8
-    requires { end ≤ length page.now }
-    ensures { result ≡ shared (view page.now env.now temp.now perm.now) (named (part page.now from end)) }
+#[tactic(auto, using(crate::proofs::TypeLaws::shared_laws, crate::proofs::TypeLaws::shared_more))]
+pub fn shared_type(view: View, from: usize, end: usize) -> u8
+    requires { end ≤ length view.page.now }
+    ensures { result ≡ shared (viewed view.entry) (named (part view.entry.page.now from end)) }
 {
     if end <= from {
         return 0;
     }
-    let first = variable::type_of(page, env, temp, perm, page[from]);
+    let first = variable::type_of(view, view.page[from]);
     let mut at = from + 1;
     while at < end {
-        let one = variable::type_of(page, env, temp, perm, page[at]);
-        if one == first {
-            at += 1;
-        } else {
+        if variable::type_of(view, view.page[at]) != first {
             return 0;
         }
+        at += 1;
     }
     first
 }
 
 // The type of an Inline Value: its own, or the page's where that is unknown.
-pub fn inline_type(page: &[u8], tag: u8, start: usize, stop: usize) -> u8
-    requires { stop ≤ length page.now }
-    ensures { result ≡ inline_type page.now tag start stop }
+#[tactic(auto, using(crate::proofs::TypeLaws::inline_laws))]
+pub fn inline_type(page: &[u8], tlv: Tlv) -> u8
+    requires { tlv.stop ≤ length page.now }
+    ensures { result ≡ inline_type page.now tlv.tag tlv.start tlv.stop }
 {
-    let own = page::type_of(tlv::attribute_of(page, tag, start, stop) % 8);
-    if own == 0 {
-        return page::page_type(page);
-    }
-    own
+    let own = page::type_of(tlv::attribute_of(page, tlv) % 8);
+    if own == 0 { page::page_type(page) } else { own }
 }
 
 // The type of an Inline Value or of a list.
-pub fn type_for<'a>(
-    page: &'a [u8],
-    env: &'a [u8; 16640],
-    temp: &'a [u8; 16640],
-    perm: &'a [u8; 17920],
-    tag: u8,
-    start: usize,
-    stop: usize,
-) -> u8
-    requires { stop ≤ length page.now }
-    ensures { result ≡ type_for (view page.now env.now temp.now perm.now) tag start stop }
+#[tactic(auto, using(crate::proofs::TypeLaws::type_laws))]
+pub fn type_for(view: View, tlv: Tlv) -> u8
+    requires { tlv.stop ≤ length view.page.now }
+    ensures { result ≡ type_for (viewed view.entry) tlv.tag tlv.start tlv.stop }
 {
-    if tag == 0x0D {
-        return shared_type(page, env, temp, perm, start, stop);
+    if tlv.tag == 0x0D {
+        shared_type(view, tlv.start, tlv.stop)
+    } else {
+        inline_type(view.page, tlv)
     }
-    inline_type(page, tag, start, stop)
 }

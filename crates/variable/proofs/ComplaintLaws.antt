@@ -1,55 +1,37 @@
--- Complaints in their order, and the ways through `rank`, `worse` and `missing`.
+-- Complaints in their order.
 -- Assumes nothing.
-use Prim.Native.Nat.{ℕ, ◌≤◌, ◌<◌}
-use mathlib.Core.Bool.{Bool, true, false, cond}
+use mathlib.Core.Bool.{true, false, cond}
 use mathlib.Core.Path.{◌≡◌, refl}
 use lib.Dec.{ltb}
 use borrow.Author.Tests.{lt-ltb, le-ltb}
 use Rattle.rules.specs.declared.Complaint.{Complaint}
 use Rattle.rules.specs.declared.Complaint.TheVariants.{Nothing, Undefined, Secured, Misused}
+use Rattle.std.specs.Ordering.{ord_max}
+use Rattle.rules.specs.contracts.ComplaintOrd.TheImpl
 use Rattle.rules.specs.Card.{Slot, free, held}
 use Rattle.rules.specs.Store.{rank, worse, undefined_in}
 use Rattle.slots.specs.Slots.{is_held}
 use Rattle.leaf.proofs.Cases.{both, tests}
 
-module _ (c : Complaint) where
-  pub rank_nothing : c ≡ Nothing → 0 ≡ rank c
-  unfolding rank
-  rank_nothing e = rw e
-
-  pub rank_undefined : c ≡ Undefined → 1 ≡ rank c
-  unfolding rank
-  rank_undefined e = rw e
-
-  pub rank_secured : c ≡ Secured → 2 ≡ rank c
-  unfolding rank
-  rank_secured e = rw e
-
-  pub rank_misused : c ≡ Misused → 3 ≡ rank c
-  unfolding rank
-  rank_misused e = rw e
-
-pub ruleset rank_laws = (rank_nothing, rank_undefined, rank_secured, rank_misused)
-
-module _ (a b : Complaint) (x y : ℕ) (e : x ≡ rank a) (f : y ≡ rank b) where
-  pub worse_right : x < y → b ≡ worse a b
-  unfolding worse
-  worse_right h = simp (← e, ← f, lt-ltb _ _ h)
-
-  pub worse_left : y ≤ x → a ≡ worse a b
-  unfolding worse
-  worse_left h = simp (← e, ← f, le-ltb _ _ h)
-
-pub ruleset worse_laws = (worse_right, worse_left)
-
-module _ (held : Bool) where
-  pub missing_held : held ≡ true → Nothing ≡ cond held Nothing Undefined
-  missing_held e = rw e refl
-
-  pub missing_free : held ≡ false → Undefined ≡ cond held Nothing Undefined
-  missing_free e = rw e refl
-
-pub ruleset missing_laws = (missing_held, missing_free)
+-- complaints are declared in their order
+pub later : (a b : Complaint) → ord_max TheImpl.cmp-value.it a b ≡ worse a b
+unfolding worse rank
+later Nothing Nothing = refl
+later Nothing Undefined = refl
+later Nothing Secured = refl
+later Nothing Misused = refl
+later Undefined Nothing = refl
+later Undefined Undefined = refl
+later Undefined Secured = refl
+later Undefined Misused = refl
+later Secured Nothing = refl
+later Secured Undefined = refl
+later Secured Secured = refl
+later Secured Misused = refl
+later Misused Nothing = refl
+later Misused Undefined = refl
+later Misused Secured = refl
+later Misused Misused = refl
 
 -- nothing is no worse than anything, and who looks for the worst may do so in any grouping
 pub worse_nothing : (a : Complaint) → worse Nothing a ≡ a

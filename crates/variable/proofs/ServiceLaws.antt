@@ -3,32 +3,32 @@
 use Prim.Native.Nat.{ℕ, suc, ◌+◌, ◌-◌, ◌≤◌, ◌<◌}
 use mathlib.Core.Bool.{Bool, true, false, cond}
 use mathlib.Core.List.{List, [], ◌∷◌}
-use mathlib.Core.Path.{◌≡◌, refl, sym, ◌∙◌}
+use mathlib.Core.Path.{◌≡◌, refl, sym, subst, ◌∙◌}
 use native.Mathlib.Omega.{arith}
 use lib.ListN.{length, get_or, get_or-eq_default}
 use lib.Dec.{ltb}
 use borrow.Author.Tests.{lt-ltb, le-ltb, eq-eqb, ne_eqb}
 use Rattle.rules.specs.declared.Complaint.{Complaint}
 use Rattle.rules.specs.declared.Complaint.TheVariants.{Nothing, Undefined, Secured, Misused}
-use Rattle.rules.specs.declared.Part.{Part}
-use Rattle.rules.specs.declared.Part.TheVariants.{Held, Missing}
 use Rattle.rules.specs.Bytes.{part}
 use Rattle.rules.specs.Page.{bytes_of, page_part, service}
 use Rattle.rules.specs.Card.{Record, none, stored}
 use Rattle.rules.specs.Store.{area, permanently, is_record, record_from, value_of, look_for, value_bytes, value_type, unserved, undefined_in, worse, writing_in}
-use Rattle.records.specs.Records.{records}
+use Rattle.records.specs.Records.{IsPlace, records}
 use Rattle.records.proofs.RecordLaws.{sixty_four}
 use Rattle.leaf.proofs.Cases.{both}
 use Rattle.variable.proofs.ComplaintLaws.{worse_nothing, worse_secured}
+use Rattle.std.specs.Prelude.{Option, None, Some, is_some}
+use Rattle.rules.specs.declared.Span.{Span}
 
-module _ (s : List ℕ) (p : Part) (is : p ≡ page_part s 0x06) where
-  pub service_none : p ≡ Missing → [] ≡ service s
+module _ (s : List ℕ) (p : Option Span) (is : p ≡ page_part s 0x06) where
+  pub service_none : p ≡ None → [] ≡ service s
   unfolding service bytes_of
   service_none x = simp (sym is ∙ x)
 
-  pub service_held : (a b : ℕ) → p ≡ Held a b → (v : List ℕ) → v ≡ part s a b → v ≡ service s
+  pub service_held : (w : Span) → p ≡ Some w → (v : List ℕ) → v ≡ part s w.from w.end → v ≡ service s
   unfolding service bytes_of
-  service_held a b x v y = simp (sym is ∙ x) y
+  service_held w x v y = simp (sym is ∙ x) y
 
 pub ruleset service_laws = (service_none, service_held)
 
@@ -107,8 +107,12 @@ look_defined id n m =
     let l : 0 + length (records m) ≡ 64 = omega (arith, sixty_four m) in
     rw (z, l) at (found 0 id n (records m))
 
+place_below : (k : Option ℕ) (n : ℕ) → IsPlace k n → is_some k ≡ ltb n 64
+place_below None n h = rw h refl
+place_below (Some k) n h = sym (lt-ltb n 64 (let e = h.0 in let l = h.1 in omega arith))
+
 module _ (s m : List ℕ) (n : ℕ) where
-  pub permanent_at : (id : List ℕ) → id ≡ service s → (k : ℕ) → k ≡ record_from 0 id n (records m) → k ≡ record_from 0 (service s) n (records m)
+  pub permanent_at : (id : List ℕ) → id ≡ service s → (k : Option ℕ) → IsPlace k (record_from 0 id n (records m)) → IsPlace k (record_from 0 (service s) n (records m))
   permanent_at id is k e = rw is at e
 
   module _ (id : List ℕ) (is : id ≡ service s) where
@@ -116,28 +120,39 @@ module _ (s m : List ℕ) (n : ℕ) where
     unfolding unserved
     permanent_unserved e = simp (← is, eq-eqb _ _ e) (sym (worse_secured (look_for id n (records m))))
 
-    pub permanent_served : (length id ≡ 0 → ⊥) → (k : ℕ) → k ≡ record_from 0 id n (records m) → (r : Complaint) → r ≡ cond (ltb k 64) Nothing Undefined → r ≡ worse (unserved (service s) permanently) (undefined_in (look_for (service s) n (records m)))
+    pub permanent_served : (length id ≡ 0 → ⊥) → (k : Option ℕ) → IsPlace k (record_from 0 id n (records m)) → (r : Complaint) → r ≡ cond (is_some k) Nothing Undefined → r ≡ worse (unserved (service s) permanently) (undefined_in (look_for (service s) n (records m)))
     unfolding unserved
-    permanent_served e k f r g = simp (← is, ne_eqb _ _ e) (g ∙ rw f (sym (worse_nothing _ ∙ look_defined id n m)))
+    permanent_served e k f r g = simp (← is, ne_eqb _ _ e) (g ∙ rw (place_below k _ f) (sym (worse_nothing _ ∙ look_defined id n m)))
 
-  module _ (k : ℕ) (is : k ≡ record_from 0 (service s) n (records m)) where
-    past_last : 64 ≤ k → get_or (records m) (record_from 0 (service s) n (records m)) none ≡ none
-    past_last h = get_or-eq_default (records m) none (omega (arith, sixty_four m))
+  past_last : record_from 0 (service s) n (records m) ≡ 64 → get_or (records m) (record_from 0 (service s) n (records m)) none ≡ none
+  past_last h = get_or-eq_default (records m) none (omega (arith, sixty_four m))
 
-    pub permanent_held : k < 64 → (v : List ℕ) → v ≡ value_bytes (value_of (get_or (records m) k none)) → v ≡ value_bytes (look_for (service s) n (records m))
-    unfolding look_for
-    permanent_held h v e = rw is at e
+  module _ (k : Option ℕ) (is : IsPlace k (record_from 0 (service s) n (records m))) where
+    module _ (j : ℕ) (h : k ≡ Some j) where
+      here : j ≡ record_from 0 (service s) n (records m)
+      here = (subst (λ o. IsPlace o (record_from 0 (service s) n (records m))) h is).0
 
-    pub permanent_free : 64 ≤ k → [] ≡ value_bytes (look_for (service s) n (records m))
-    unfolding look_for value_of value_bytes
-    permanent_free h = rw (past_last h)
+      pub permanent_held : (v : List ℕ) → v ≡ value_bytes (value_of (get_or (records m) j none)) → v ≡ value_bytes (look_for (service s) n (records m))
+      unfolding look_for
+      permanent_held v e = rw here at e
 
-    pub permanent_typed : k < 64 → (t : ℕ) → t ≡ value_type (value_of (get_or (records m) k none)) → t ≡ value_type (look_for (service s) n (records m))
-    unfolding look_for
-    permanent_typed h t e = rw is at e
+      pub permanent_typed : (t : ℕ) → t ≡ value_type (value_of (get_or (records m) j none)) → t ≡ value_type (look_for (service s) n (records m))
+      unfolding look_for
+      permanent_typed t e = rw here at e
 
-    pub permanent_untyped : 64 ≤ k → 0 ≡ value_type (look_for (service s) n (records m))
-    unfolding look_for value_of value_type
-    permanent_untyped h = rw (past_last h)
+      pub permanent_below : j < 64
+      permanent_below = (subst (λ o. IsPlace o (record_from 0 (service s) n (records m))) h is).1
 
-pub ruleset permanent_laws = (permanent_at, permanent_unserved, permanent_served, permanent_held, permanent_free, permanent_typed, permanent_untyped)
+    module _ (h : k ≡ None) where
+      nowhere : record_from 0 (service s) n (records m) ≡ 64
+      nowhere = subst (λ o. IsPlace o (record_from 0 (service s) n (records m))) h is
+
+      pub permanent_free : [] ≡ value_bytes (look_for (service s) n (records m))
+      unfolding look_for value_of value_bytes
+      permanent_free = rw (past_last nowhere)
+
+      pub permanent_untyped : 0 ≡ value_type (look_for (service s) n (records m))
+      unfolding look_for value_of value_type
+      permanent_untyped = rw (past_last nowhere)
+
+pub ruleset permanent_laws = (permanent_at, permanent_unserved, permanent_served, permanent_held, permanent_free, permanent_typed, permanent_untyped, permanent_below)

@@ -9,8 +9,6 @@ use lib.ListN.{length, get_or, length-take, length-drop}
 use borrow.Author.Tests.{lt-ltb, le-ltb}
 use Rattle.rules.specs.declared.Complaint.{Complaint}
 use Rattle.rules.specs.declared.Complaint.TheVariants.{Nothing, Undefined}
-use Rattle.rules.specs.declared.Part.{Part}
-use Rattle.rules.specs.declared.Part.TheVariants.{Held, Missing}
 use Rattle.rules.specs.Bytes.{part}
 use Rattle.rules.specs.Page.{service, page_type, element}
 use Rattle.rules.specs.Card.{free, Card}
@@ -19,9 +17,11 @@ use Rattle.slots.specs.Slots.{slots, is_held}
 use Rattle.records.specs.Records.{records}
 use Rattle.variable.specs.View.{seen, view}
 use Rattle.variable.proofs.ComplaintLaws.{worse_nothing, undefined_held}
+use Rattle.std.specs.Prelude.{Option, None, Some}
+use Rattle.rules.specs.declared.Span.{Span}
 
-module _ (s : List ℕ) (n : ℕ) (p : Part) (is : p ≡ element s n) where
-  module _ (x : p ≡ Missing) where
+module _ (s : List ℕ) (n : ℕ) (p : Option Span) (is : p ≡ element s n) where
+  module _ (x : p ≡ None) where
     pub string_free : [] ≡ value_bytes (string_of s (element s n))
     unfolding string_of value_bytes
     string_free = simp (sym is ∙ x)
@@ -34,8 +34,8 @@ module _ (s : List ℕ) (n : ℕ) (p : Part) (is : p ≡ element s n) where
     unfolding string_of undefined_in
     string_undefined = simp (sym is ∙ x)
 
-  module _ (a b : ℕ) (x : p ≡ Held a b) where
-    pub string_held : (v : List ℕ) → v ≡ part s a b → v ≡ value_bytes (string_of s (element s n))
+  module _ (w : Span) (x : p ≡ Some w) where
+    pub string_held : (v : List ℕ) → v ≡ part s w.from w.end → v ≡ value_bytes (string_of s (element s n))
     unfolding string_of value_bytes
     string_held v e = simp (sym is ∙ x) e
 

@@ -3,6 +3,7 @@ use Rattle.std.specs.Prelude.{List, [], ℕ}
 use Rattle.rules.specs.Card.{Slot, Record, Card, unlocked, empty}
 use Rattle.slots.specs.Slots.{slots}
 use Rattle.records.specs.Records.{records}
+use Rattle.variable.specs.declared.View.{View}
 
 -- a card with nothing else
 unfoldable pub seen : List ℕ → List Slot → List Slot → List Record → Card
@@ -24,3 +25,7 @@ bare c = seen c.run.page c.environment c.temporary c.permanent
 -- what the lent arrays show
 unfoldable pub view : List ℕ → List ℕ → List ℕ → List ℕ → Card
 view page env temp perm = seen page (slots env) (slots temp) (records perm)
+
+-- what a view shows
+abbrev pub viewed : View → Card
+viewed v = view v.page.now v.environment.now v.temporary.now v.permanent.now

@@ -7,8 +7,6 @@ use mathlib.Core.Path.{◌≡◌, refl}
 use native.Mathlib.Omega.{arith}
 use lib.ListN.{length, get_or}
 use lib.Dec.{eqb}
-use Rattle.rules.specs.declared.Head.{Head}
-use Rattle.rules.specs.declared.Head.TheVariants.{Tlv, Past}
 use Rattle.rules.specs.declared.Target.{Target}
 use Rattle.rules.specs.declared.Target.TheVariants.{Unit as UnitAt, Lacking, Other}
 use Rattle.rules.specs.declared.Action.{Action}
@@ -32,12 +30,14 @@ use Rattle.rules.specs.Step.{setting_complaint, ByteCode, setting_variables, goi
 use Rattle.rules.proofs.IsolationRows.{tlv_in}
 use Rattle.variable.specs.View.{seen, view}
 use Rattle.unit.proofs.Units.{code_tlv}
-use Rattle.branching.specs.declared.Branch.{Branch}
-use Rattle.branching.specs.declared.Branch.TheVariants.{Refused, Onwards, Towards}
 use Rattle.branching.specs.Branch.{branch_choice}
 use Rattle.ways.specs.declared.Way.{Way}
-use Rattle.ways.specs.declared.Way.TheVariants.{End, Refuse, Store, Length, Send}
-use Rattle.ways.specs.Way.{way_to, branch_way, action_way, exit_way, unless_way, length_way, list_way, send_way, way_by, code_way, way_at, Inside}
+use Rattle.ways.specs.declared.Way.TheVariants.{End, Refuse, Store, Length}
+use Rattle.ways.specs.Way.{send_tlv, way_to, branch_way, action_way, exit_way, unless_way, length_way, list_way, send_way, way_by, code_way, way_at, Inside}
+use Rattle.std.specs.Prelude.{Option, Some, None, Result, Ok, Err}
+use Rattle.rules.specs.declared.Tlv.{Tlv}
+use Rattle.rules.specs.declared.Span.{Span}
+use Rattle.rules.specs.declared.Refusal.{Refusal}
 
 cond_inside : (n : ℕ) (b : Bool) (v w : Way) → Inside n v → Inside n w → Inside n (cond b v w)
 cond_inside n true v w x y = x
@@ -49,11 +49,11 @@ to_inside n start stop (UnitAt k) = tt
 to_inside n start stop Lacking = tt
 to_inside n start stop Other = tt
 
-branch_inside : (n : ℕ) (s : List ℕ) (next : ℕ) (b : Branch) → Inside n (branch_way s next b)
+branch_inside : (n : ℕ) (s : List ℕ) (next : ℕ) (b : Result (Option Span) Refusal) → Inside n (branch_way s next b)
 unfolding branch_way
-branch_inside n s next (Refused r) = tt
-branch_inside n s next Onwards = tt
-branch_inside n s next (Towards start stop) = to_inside n start stop (target s (part s start stop))
+branch_inside n s next (Err r) = tt
+branch_inside n s next (Ok None) = tt
+branch_inside n s next (Ok (Some p)) = to_inside n p.from p.end (target s (part s p.from p.end))
 
 action_inside : (n : ℕ) (s : List ℕ) (next : ℕ) (a : Action) → Inside n (action_way s next a)
 unfolding action_way
@@ -81,12 +81,12 @@ unfolding length_way
 length_inside c number from to stop n i =
     unless_inside n (worse (writing_in (service c.run.page) (area number)) (complaint c [] (named (part c.run.page from to)))) (Length number from to stop) i
 
-list_inside : (c : Card) (number at stop : ℕ) → stop ≤ length c.run.page → (h : Head) → head_at c.run.page at stop ≡ h → Inside (length c.run.page) (list_way c number stop h)
+list_inside : (c : Card) (number at stop : ℕ) → stop ≤ length c.run.page → (h : Option Tlv) → head_at c.run.page at stop ≡ h → Inside (length c.run.page) (list_way c number stop h)
 unfolding list_way
-list_inside c number at stop i (Tlv tag from to) e =
-    let k = tlv_in c.run.page at stop tag from to e in
-    length_inside c number from to stop (length c.run.page) (omega arith)
-list_inside c number at stop i Past e = length_inside c number 0 0 stop (length c.run.page) (omega arith)
+list_inside c number at stop i (Some h) e =
+    let k = tlv_in c.run.page at stop h.tag h.start h.stop e in
+    length_inside c number h.start h.stop stop (length c.run.page) (omega arith)
+list_inside c number at stop i None e = length_inside c number 0 0 stop (length c.run.page) (omega arith)
 
 module _ (c : Card) (unit tag start stop : ℕ) (i : start ≤ stop) (j : stop ≤ length c.run.page) where
   send_inside : Inside (length c.run.page) (send_way c tag start stop)
@@ -94,7 +94,7 @@ module _ (c : Card) (unit tag start stop : ℕ) (i : start ≤ stop) (j : stop �
   send_inside =
       let x = execute_of c.run.page tag start stop in
       let n = length c.run.page in
-      unless_inside n (execute_complaint c x) (cond (allowed c x) (Send tag start stop) (Refuse Disallowed)) (cond_inside n (allowed c x) (Send tag start stop) (Refuse Disallowed) (i, j) tt)
+      unless_inside n (execute_complaint c x) (cond (allowed c x) (send_tlv tag start stop) (Refuse Disallowed)) (cond_inside n (allowed c x) (send_tlv tag start stop) (Refuse Disallowed) (i, j) tt)
 
   by_inside : (k : ByteCode) → Inside (length c.run.page) (way_by c unit tag start stop k)
   unfolding way_by
@@ -106,14 +106,14 @@ module _ (c : Card) (unit tag start stop : ℕ) (i : start ≤ stop) (j : stop �
   by_inside getting_length = list_inside c (get_or c.run.page start 0) (start + 1) stop j (head_at c.run.page (start + 1) stop) refl
   by_inside unknown = tt
 
-code_inside : (c : Card) (unit : ℕ) (h : Head) → ((tag start stop : ℕ) → h ≡ Tlv tag start stop → (start ≤ stop) × (stop ≤ length c.run.page)) → Inside (length c.run.page) (code_way c unit h)
+code_inside : (c : Card) (unit : ℕ) (h : Option Tlv) → ((v : Tlv) → h ≡ Some v → (v.start ≤ v.stop) × (v.stop ≤ length c.run.page)) → Inside (length c.run.page) (code_way c unit h)
 unfolding code_way
-code_inside c unit (Tlv tag start stop) f =
-    let k = f tag start stop refl in
-    by_inside c unit tag start stop k.0 k.1 (byte_code tag)
-code_inside c unit Past f = tt
+code_inside c unit (Some h) f =
+    let k = f h refl in
+    by_inside c unit h.tag h.start h.stop k.0 k.1 (byte_code h.tag)
+code_inside c unit None f = tt
 
 pub way_inside : (page env temp perm : List ℕ) (unit place : ℕ) → Inside (length page) (way_at (view page env temp perm) unit place)
 unfolding way_at view seen
 way_inside page env temp perm unit place =
-    code_inside (view page env temp perm) unit (code_at page unit place) (λ tag start stop x. let k = code_tlv page unit place x in (k.1, k.2))
+    code_inside (view page env temp perm) unit (code_at page unit place) (λ v x. let k = code_tlv page unit place x in (k.1, k.2))

@@ -8,9 +8,6 @@ use lib.ListN.{length, get_or}
 use lib.Dec.{eqb}
 use borrow.Author.Tests.{eqb-true}
 use Rattle.leaf.proofs.Cases.{both}
-use Rattle.rules.specs.declared.Head.{Head}
-use Rattle.rules.specs.declared.Head.TheVariants.{Tlv, Past}
-use Rattle.rules.specs.declared.Judged.TheVariants.{Accepted}
 use Rattle.rules.specs.declared.Target.{Target}
 use Rattle.rules.specs.declared.Target.TheVariants.{Unit as UnitAt, Lacking, Other}
 use Rattle.rules.specs.declared.Action.{Action}
@@ -39,19 +36,21 @@ use Rattle.rules.proofs.StaysCardReference.{GoRef, ChoiceRef, handle_ref, branch
 use Rattle.rules.proofs.StaysCardPage.{page_fine}
 use Rattle.rules.proofs.StaysCardStep.{Running}
 use Rattle.variable.specs.View.{seen, bare}
-use Rattle.branching.specs.declared.Branch.{Branch}
-use Rattle.branching.specs.declared.Branch.TheVariants.{Refused as Rejects, Onwards, Towards}
 use Rattle.branching.specs.Branch.{refused_by, branch_for, branch_slot, branch_choice}
 use Rattle.branching.proofs.Taken.{bare_choose}
 use Rattle.ways.specs.declared.Way.{Way}
-use Rattle.ways.specs.declared.Way.TheVariants.{End, Refuse, Store, Length, Send}
-use Rattle.ways.specs.Way.{way_to, branch_way, action_way, exit_way, unless_way, length_way, list_way, send_way, way_by, code_way, way_at, Short}
+use Rattle.ways.specs.declared.Way.TheVariants.{End, Refuse, Store, Length}
+use Rattle.ways.specs.Way.{send_tlv, way_to, branch_way, action_way, exit_way, unless_way, length_way, list_way, send_way, way_by, code_way, way_at, Short}
+use Rattle.std.specs.Prelude.{Option, Some, None, Result, Ok, Err}
+use Rattle.rules.specs.declared.Tlv.{Tlv}
+use Rattle.rules.specs.declared.Span.{Span}
+use Rattle.rules.specs.declared.Refusal.{Refusal}
 
 -- the reference that a branch follows
-abbrev ShortBranch : List ℕ → Branch → Type 0
-ShortBranch s (Rejects r) = Unit {0}
-ShortBranch s Onwards = Unit {0}
-ShortBranch s (Towards a b) = length (part s a b) ≤ 65
+abbrev ShortBranch : List ℕ → Result (Option Span) Refusal → Type 0
+ShortBranch s (Err r) = Unit {0}
+ShortBranch s (Ok None) = Unit {0}
+ShortBranch s (Ok (Some p)) = length (part s p.from p.end) ≤ 65
 
 for_short : (s : List ℕ) (x : Choice) → ChoiceRef s x → ShortBranch s (branch_for x)
 unfolding branch_for
@@ -64,7 +63,7 @@ unfolding branch_slot
 slot_short c row f free = tt
 slot_short c row f (held type bytes) = for_short c.run.page (choose (bare c) bytes row) (rw (bare_choose c bytes row) (f bytes))
 
-refused_short : (s : List ℕ) (w : Complaint) (b : Branch) → ShortBranch s b → ShortBranch s (refused_by w b)
+refused_short : (s : List ℕ) (w : Complaint) (b : Result (Option Span) Refusal) → ShortBranch s b → ShortBranch s (refused_by w b)
 unfolding refused_by
 refused_short s Nothing b h = h
 refused_short s Undefined b h = tt
@@ -83,11 +82,11 @@ to_short s start stop (UnitAt k) h = tt
 to_short s start stop Lacking h = tt
 to_short s start stop Other h = h
 
-branch_short : (s : List ℕ) (next : ℕ) (b : Branch) → ShortBranch s b → Short s (branch_way s next b)
+branch_short : (s : List ℕ) (next : ℕ) (b : Result (Option Span) Refusal) → ShortBranch s b → Short s (branch_way s next b)
 unfolding branch_way
-branch_short s next (Rejects r) h = tt
-branch_short s next Onwards h = tt
-branch_short s next (Towards start stop) h = to_short s start stop (target s (part s start stop)) h
+branch_short s next (Err r) h = tt
+branch_short s next (Ok None) h = tt
+branch_short s next (Ok (Some p)) h = to_short s p.from p.end (target s (part s p.from p.end)) h
 
 action_short : (s : List ℕ) (next : ℕ) (a : Action) → GoRef s a → Short s (action_way s next a)
 unfolding action_way
@@ -102,7 +101,7 @@ cond_short : (s : List ℕ) (b : Bool) (v w : Way) → Short s v → Short s w �
 cond_short s true v w x y = x
 cond_short s false v w x y = y
 
-exit_short : (s : List ℕ) (unit tag start stop : ℕ) → judge s ≡ Accepted → Short s (exit_way s unit tag start stop)
+exit_short : (s : List ℕ) (unit tag start stop : ℕ) → judge s ≡ Ok tt → Short s (exit_way s unit tag start stop)
 unfolding exit_way
 exit_short s unit tag start stop ok =
     cond_short s (eqb (attribute s tag start stop % 2) 1) (End true) (action_way s stop (handle s unit 0x10)) tt (action_short s stop (handle s unit 0x10) (handle_ref s ok unit 0x10))
@@ -114,16 +113,16 @@ unless_short s Undefined v h = tt
 unless_short s Secured v h = tt
 unless_short s Misused v h = tt
 
-list_short : (s : List ℕ) (c : Card) (n stop : ℕ) (h : Head) → Short s (list_way c n stop h)
+list_short : (s : List ℕ) (c : Card) (n stop : ℕ) (h : Option Tlv) → Short s (list_way c n stop h)
 unfolding list_way length_way
-list_short s c n stop (Tlv tag from to) = unless_short s (worse (writing_in (service c.run.page) (area n)) (complaint c [] (named (part c.run.page from to)))) (Length n from to stop) tt
-list_short s c n stop Past = unless_short s (worse (writing_in (service c.run.page) (area n)) (complaint c [] (named (part c.run.page 0 0)))) (Length n 0 0 stop) tt
+list_short s c n stop (Some h) = unless_short s (worse (writing_in (service c.run.page) (area n)) (complaint c [] (named (part c.run.page h.start h.stop)))) (Length n h.start h.stop stop) tt
+list_short s c n stop None = unless_short s (worse (writing_in (service c.run.page) (area n)) (complaint c [] (named (part c.run.page 0 0)))) (Length n 0 0 stop) tt
 
 send_short : (s : List ℕ) (c : Card) (tag start stop : ℕ) → Short s (send_way c tag start stop)
 unfolding send_way
 send_short s c tag start stop =
     let x = execute_of c.run.page tag start stop in
-    unless_short s (execute_complaint c x) (cond (allowed c x) (Send tag start stop) (Refuse Disallowed)) (cond_short s (allowed c x) (Send tag start stop) (Refuse Disallowed) tt tt)
+    unless_short s (execute_complaint c x) (cond (allowed c x) (send_tlv tag start stop) (Refuse Disallowed)) (cond_short s (allowed c x) (send_tlv tag start stop) (Refuse Disallowed) tt tt)
 
 -- only '44' is a branch
 is_branching : ByteCode → Bool
@@ -151,26 +150,26 @@ branching_44 tag e =
     (λ f. let g : is_branching (cond (eqb tag 0x40) setting_variables (cond (eqb (plain tag) 0x43) going_back (cond (eqb (plain tag) 0x45) exiting (cond (eqb (plain tag) 0x46) executing (cond (eqb tag 0x48) getting_length unknown))))) ≡ true = ap is_branching (rw f at e) in
     absurd (false≢true (sym (no_branching (eqb tag 0x40) (eqb (plain tag) 0x43) (eqb (plain tag) 0x45) (eqb (plain tag) 0x46) (eqb tag 0x48)) ∙ g)))
 
-module _ (c : Card) (r : Running c) (tag start stop : ℕ) (at : code_at c.run.page c.run.unit c.run.place ≡ Tlv tag start stop) where
-  choices : tag ≡ 0x44 → ((bytes : List ℕ) → ChoiceRef c.run.page (choose c bytes (tlvs 0 c.run.page (start + 1) stop)))
+module _ (c : Card) (r : Running c) (v : Tlv) (at : code_at c.run.page c.run.unit c.run.place ≡ Some v) where
+  choices : v.tag ≡ 0x44 → ((bytes : List ℕ) → ChoiceRef c.run.page (choose c bytes (tlvs 0 c.run.page (v.start + 1) v.stop)))
   choices t bytes =
-      let q = (page_fine c.run.page r.accepted).code c.run.unit c.run.place 0x44 start stop r.place (rw t at at) in
-      branch_ref c bytes q.0 q.1 c.run.place start stop q.3 q.2
+      let q = (page_fine c.run.page r.accepted).code c.run.unit c.run.place 0x44 v.start v.stop r.place (rw t at at) in
+      branch_ref c bytes q.0 q.1 c.run.place v.start v.stop q.3 q.2
 
-  code_short : (k : ByteCode) → byte_code tag ≡ k → Short c.run.page (way_by (bare c) c.run.unit tag start stop k)
+  code_short : (k : ByteCode) → byte_code v.tag ≡ k → Short c.run.page (way_by (bare c) c.run.unit v.tag v.start v.stop k)
   unfolding way_by bare seen
-  code_short setting_variables e = unless_short c.run.page (setting_complaint (bare c) [] (tlvs 1 c.run.page start stop)) (Store start stop) tt
+  code_short setting_variables e = unless_short c.run.page (setting_complaint (bare c) [] (tlvs 1 c.run.page v.start v.stop)) (Store v.start v.stop) tt
   code_short going_back e = tt
-  code_short branching e = branch_short c.run.page stop (branch_choice (bare c) start stop) (choice_short c start stop (choices (branching_44 tag e)))
-  code_short exiting e = exit_short c.run.page c.run.unit tag start stop r.accepted
-  code_short executing e = send_short c.run.page (bare c) tag start stop
-  code_short getting_length e = list_short c.run.page (bare c) (get_or c.run.page start 0) stop (head_at c.run.page (start + 1) stop)
+  code_short branching e = branch_short c.run.page v.stop (branch_choice (bare c) v.start v.stop) (choice_short c v.start v.stop (choices (branching_44 v.tag e)))
+  code_short exiting e = exit_short c.run.page c.run.unit v.tag v.start v.stop r.accepted
+  code_short executing e = send_short c.run.page (bare c) v.tag v.start v.stop
+  code_short getting_length e = list_short c.run.page (bare c) (get_or c.run.page v.start 0) v.stop (head_at c.run.page (v.start + 1) v.stop)
   code_short unknown e = tt
 
-head_short : (c : Card) → Running c → (h : Head) → code_at c.run.page c.run.unit c.run.place ≡ h → Short c.run.page (code_way (bare c) c.run.unit h)
+head_short : (c : Card) → Running c → (h : Option Tlv) → code_at c.run.page c.run.unit c.run.place ≡ h → Short c.run.page (code_way (bare c) c.run.unit h)
 unfolding code_way
-head_short c r (Tlv tag start stop) e = code_short c r tag start stop e (byte_code tag) refl
-head_short c r Past e = tt
+head_short c r (Some h) e = code_short c r h e (byte_code h.tag) refl
+head_short c r None e = tt
 
 pub way_short : (c : Card) → Running c → Short c.run.page (way_at (bare c) c.run.unit c.run.place)
 unfolding way_at bare seen

@@ -6,8 +6,6 @@ use mathlib.Core.List.{List, []}
 use mathlib.Core.Path.{◌≡◌, refl, ap, ◌∙◌}
 use lib.ListN.{length, get_or}
 use lib.Dec.{eqb}
-use Rattle.rules.specs.declared.Head.{Head}
-use Rattle.rules.specs.declared.Head.TheVariants.{Tlv, Past}
 use Rattle.rules.specs.declared.Target.{Target}
 use Rattle.rules.specs.declared.Target.TheVariants.{Unit as UnitAt, Lacking, Other}
 use Rattle.rules.specs.declared.Action.{Action}
@@ -31,14 +29,16 @@ use Rattle.rules.specs.Step.{Plan, refuses, does, unless, onwards, finish, branc
 use Rattle.variable.specs.View.{seen, bare, view}
 use Rattle.value.proofs.Bare.{bare_complaint}
 use Rattle.execute.proofs.Bare.{bare_execute, bare_allowed}
-use Rattle.branching.specs.declared.Branch.{Branch}
-use Rattle.branching.specs.declared.Branch.TheVariants.{Refused, Onwards, Towards}
 use Rattle.branching.specs.Branch.{branch_choice, taken_on}
 use Rattle.branching.proofs.Taken.{branch_taken}
 use Rattle.storing.proofs.StoreLaws.{bare_setting}
 use Rattle.ways.specs.declared.Way.{Way}
-use Rattle.ways.specs.declared.Way.TheVariants.{End, Refuse, Store, Length, Send}
-use Rattle.ways.specs.Way.{way_to, branch_way, action_way, exit_way, unless_way, length_way, list_way, send_way, way_by, code_way, way_at, issued, plan_of}
+use Rattle.ways.specs.declared.Way.TheVariants.{End, Refuse, Store, Length}
+use Rattle.ways.specs.Way.{send_tlv, way_to, branch_way, action_way, exit_way, unless_way, length_way, list_way, send_way, way_by, code_way, way_at, issued, plan_of}
+use Rattle.std.specs.Prelude.{Option, Some, None, Result, Ok, Err}
+use Rattle.rules.specs.declared.Tlv.{Tlv}
+use Rattle.rules.specs.declared.Span.{Span}
+use Rattle.rules.specs.declared.Refusal.{Refusal}
 
 to_plan : (c : Card) (start stop : ℕ) (t : Target) → branch_by c (part c.run.page start stop) t ≡ plan_of c (way_to start stop t)
 unfolding way_to branch_by plan_of
@@ -46,11 +46,11 @@ to_plan c start stop (UnitAt k) = refl
 to_plan c start stop Lacking = refl
 to_plan c start stop Other = refl
 
-taken_plan : (c : Card) (next : ℕ) (b : Branch) → taken_on c next b ≡ plan_of c (branch_way c.run.page next b)
+taken_plan : (c : Card) (next : ℕ) (b : Result (Option Span) Refusal) → taken_on c next b ≡ plan_of c (branch_way c.run.page next b)
 unfolding taken_on branch_way plan_of branch
-taken_plan c next (Refused r) = refl
-taken_plan c next Onwards = refl
-taken_plan c next (Towards start stop) = to_plan c start stop (target c.run.page (part c.run.page start stop))
+taken_plan c next (Err r) = refl
+taken_plan c next (Ok None) = refl
+taken_plan c next (Ok (Some p)) = to_plan c p.from p.end (target c.run.page (part c.run.page p.from p.end))
 
 action_plan : (c : Card) (next : ℕ) (a : Action) → perform c next finish a ≡ plan_of c (action_way c.run.page next a)
 unfolding perform action_way plan_of branch
@@ -101,12 +101,12 @@ length_plan c n from to stop =
     let w = worse (writing_in (service c.run.page) (area n)) (complaint c [] (named (part c.run.page from to))) in
     rw (bare_complaint c [] (named (part c.run.page from to))) (unless_plan c w (storing (onwards stop) (write c n 3 (shortest (length (joined c (named (part c.run.page from to))))))) (Length n from to stop) (count_plan c n from to stop))
 
-list_plan : (c : Card) (n stop : ℕ) (h : Head) → unless (worse (writing c n) (complaint c [] (list_at c h))) (storing (onwards stop) (write c n 3 (shortest (length (joined c (list_at c h)))))) ≡ plan_of c (list_way (bare c) n stop h)
+list_plan : (c : Card) (n stop : ℕ) (h : Option Tlv) → unless (worse (writing c n) (complaint c [] (list_at c h))) (storing (onwards stop) (write c n 3 (shortest (length (joined c (list_at c h)))))) ≡ plan_of c (list_way (bare c) n stop h)
 unfolding list_way list_at
-list_plan c n stop (Tlv tag from to) = length_plan c n from to stop
-list_plan c n stop Past = rw (← no_list c.run.page) (length_plan c n 0 0 stop)
+list_plan c n stop (Some h) = length_plan c n h.start h.stop stop
+list_plan c n stop None = rw (← no_list c.run.page) (length_plan c n 0 0 stop)
 
-allowed_plan : (c : Card) (tag start stop : ℕ) (b : Bool) → cond b (issued c (command c (execute_of c.run.page tag start stop))) (refuses Disallowed) ≡ plan_of c (cond b (Send tag start stop) (Refuse Disallowed))
+allowed_plan : (c : Card) (tag start stop : ℕ) (b : Bool) → cond b (issued c (command c (execute_of c.run.page tag start stop))) (refuses Disallowed) ≡ plan_of c (cond b (send_tlv tag start stop) (Refuse Disallowed))
 unfolding plan_of
 allowed_plan c tag start stop true = refl
 allowed_plan c tag start stop false = refl
@@ -115,7 +115,7 @@ send_plan : (c : Card) (tag start stop : ℕ) → execute c (execute_of c.run.pa
 unfolding execute send_way issued bare seen
 send_plan c tag start stop =
     let x = execute_of c.run.page tag start stop in
-    rw (bare_execute c x, bare_allowed c x) (unless_plan c (execute_complaint c x) (cond (allowed c x) (issued c (command c x)) (refuses Disallowed)) (cond (allowed c x) (Send tag start stop) (Refuse Disallowed)) (allowed_plan c tag start stop (allowed c x)))
+    rw (bare_execute c x, bare_allowed c x) (unless_plan c (execute_complaint c x) (cond (allowed c x) (issued c (command c x)) (refuses Disallowed)) (cond (allowed c x) (send_tlv tag start stop) (Refuse Disallowed)) (allowed_plan c tag start stop (allowed c x)))
 
 code_plan : (c : Card) (tag start stop : ℕ) (k : ByteCode) → plan_by c tag start stop k ≡ plan_of c (way_by (bare c) c.run.unit tag start stop k)
 unfolding plan_by way_by get_length plan_of bare seen
@@ -127,10 +127,10 @@ code_plan c tag start stop executing = send_plan c tag start stop
 code_plan c tag start stop getting_length = list_plan c (get_or c.run.page start 0) stop (head_at c.run.page (start + 1) stop)
 code_plan c tag start stop unknown = refl
 
-head_plan : (c : Card) (h : Head) → plan_for c h ≡ plan_of c (code_way (bare c) c.run.unit h)
+head_plan : (c : Card) (h : Option Tlv) → plan_for c h ≡ plan_of c (code_way (bare c) c.run.unit h)
 unfolding plan_for code_way plan_of
-head_plan c (Tlv tag start stop) = code_plan c tag start stop (byte_code tag)
-head_plan c Past = refl
+head_plan c (Some h) = code_plan c h.tag h.start h.stop (byte_code h.tag)
+head_plan c None = refl
 
 own_plan : (c : Card) → decide c ≡ plan_of c (way_at (bare c) c.run.unit c.run.place)
 unfolding decide here way_at bare seen

@@ -7,8 +7,6 @@ use mathlib.Core.Path.{◌≡◌, refl, sym, ap, ◌∙◌}
 use native.Mathlib.Omega.{arith}
 use lib.ListN.{length, get_or}
 use borrow.Author.Tests.{eq-eqb, ne_eqb}
-use Rattle.rules.specs.declared.Head.{Head}
-use Rattle.rules.specs.declared.Head.TheVariants.{Tlv, Past}
 use Rattle.rules.specs.declared.Target.{Target}
 use Rattle.rules.specs.declared.Target.TheVariants.{Unit as UnitAt, Lacking, Other}
 use Rattle.rules.specs.declared.Action.{Action}
@@ -31,15 +29,19 @@ use Rattle.rules.specs.Value.{complaint}
 use Rattle.rules.specs.Command.{execute_of, type_at, execute_complaint, allowed_by, allowed}
 use Rattle.rules.specs.Step.{setting_complaint, byte_code}
 use Rattle.slots.specs.Slots.{slots}
+use Rattle.variable.specs.Refused.{refusal_of}
 use Rattle.variable.specs.View.{seen, view}
 use Rattle.rules.proofs.IsolationRows.{tlv_in}
 use Rattle.unit.proofs.Units.{code_tlv}
-use Rattle.branching.specs.declared.Branch.{Branch}
-use Rattle.branching.specs.declared.Branch.TheVariants.{Refused, Onwards, Towards}
 use Rattle.branching.specs.Branch.{branch_choice}
 use Rattle.ways.specs.declared.Way.{Way}
-use Rattle.ways.specs.declared.Way.TheVariants.{Enter, Place, End, Refuse, Away, Back, Store, Length, Send}
-use Rattle.ways.specs.Way.{way_to, branch_way, action_way, exit_way, unless_way, length_way, list_way, send_way, way_by, code_way, way_at}
+use Rattle.ways.specs.declared.Way.TheVariants.{Enter, Place, End, Refuse, Away, Back, Store, Length}
+use Rattle.ways.specs.Way.{send_tlv, way_to, branch_way, action_way, exit_way, unless_way, length_way, list_way, send_way, way_by, code_way, way_at}
+use Rattle.std.specs.Prelude.{Option, None, Result, Ok, Err, Some}
+use Rattle.rules.specs.declared.Tlv.{Tlv}
+use Rattle.rules.specs.declared.Span.{Span}
+use Rattle.rules.specs.Built.{some_tlv}
+use Rattle.branching.specs.Branch.{towards}
 
 module _ (page w : List ℕ) (start stop : ℕ) (e : w ≡ part page start stop) (t : Target) (f : t ≡ target page w) where
   pub to_unit : (k : ℕ) → t ≡ UnitAt k → Enter k ≡ way_to start stop (target page (part page start stop))
@@ -56,16 +58,16 @@ module _ (page w : List ℕ) (start stop : ℕ) (e : w ≡ part page start stop)
 
 pub ruleset to_laws = (to_unit, to_lacking, to_other)
 
-module _ (page env temp perm : List ℕ) (start stop : ℕ) (b : Branch) (e : b ≡ branch_choice (view page env temp perm) start stop) where
-  pub branch_refused : (why : Refusal) → b ≡ Refused why → Refuse why ≡ branch_way page stop (branch_choice (view page env temp perm) start stop)
+module _ (page env temp perm : List ℕ) (start stop : ℕ) (b : Result (Option Span) Refusal) (e : b ≡ branch_choice (view page env temp perm) start stop) where
+  pub branch_refused : (why : Refusal) → b ≡ Err why → Refuse why ≡ branch_way page stop (branch_choice (view page env temp perm) start stop)
   unfolding branch_way
   branch_refused why x = rw (← e, x) refl
 
-  pub branch_onwards : b ≡ Onwards → Place stop ≡ branch_way page stop (branch_choice (view page env temp perm) start stop)
+  pub branch_onwards : b ≡ (Ok None) → Place stop ≡ branch_way page stop (branch_choice (view page env temp perm) start stop)
   unfolding branch_way
   branch_onwards x = rw (← e, x) refl
 
-  pub branch_towards : (from to : ℕ) → b ≡ Towards from to → (w : Way) → w ≡ way_to from to (target page (part page from to)) → w ≡ branch_way page stop (branch_choice (view page env temp perm) start stop)
+  pub branch_towards : (from to : ℕ) → b ≡ towards from to → (w : Way) → w ≡ way_to from to (target page (part page from to)) → w ≡ branch_way page stop (branch_choice (view page env temp perm) start stop)
   unfolding branch_way
   branch_towards from to x w y = rw (← e, x) y
 
@@ -107,61 +109,66 @@ module _ (page : List ℕ) (unit tag start stop n : ℕ) (e : n ≡ attribute pa
 
 pub ruleset exit_laws = (exit_ends, exit_pass, exit_next, exit_quit, exit_back, exit_retry, exit_go)
 
-module _ (w : Complaint) (v : Way) where
-  pub unless_nothing : w ≡ Nothing → v ≡ unless_way w v
-  unfolding unless_way
-  unless_nothing x = rw x refl
+-- a complaint that comes to a refusal, and one that comes to none
+unrefused : (w : Complaint) (v : Way) → refusal_of w ≡ None → v ≡ unless_way w v
+unfolding unless_way refusal_of
+unrefused Nothing v e = refl
+unrefused Undefined v e = let z : ◌≡◌ {A = Option Refusal} (Some Variable) None = e in cc
+unrefused Secured v e = let z : ◌≡◌ {A = Option Refusal} (Some Security) None = e in cc
+unrefused Misused v e = let z : ◌≡◌ {A = Option Refusal} (Some Syntax) None = e in cc
 
-  pub unless_undefined : w ≡ Undefined → Refuse Variable ≡ unless_way w v
-  unfolding unless_way
-  unless_undefined x = rw x refl
+refused : (w : Complaint) (why : Refusal) (v : Way) → refusal_of w ≡ Some why → Refuse why ≡ unless_way w v
+unfolding unless_way refusal_of
+refused Nothing why v e = let z : ◌≡◌ {A = Option Refusal} None (Some why) = e in cc
+refused Undefined why v e = let z : ◌≡◌ {A = Option Refusal} (Some Variable) (Some why) = e in cc
+refused Secured why v e = let z : ◌≡◌ {A = Option Refusal} (Some Security) (Some why) = e in cc
+refused Misused why v e = let z : ◌≡◌ {A = Option Refusal} (Some Syntax) (Some why) = e in cc
 
-  pub unless_secured : w ≡ Secured → Refuse Security ≡ unless_way w v
-  unfolding unless_way
-  unless_secured x = rw x refl
+module _ (w : Complaint) (v : Way) (o : Option Refusal) (by : o ≡ refusal_of w) where
+  pub unless_free : o ≡ None → v ≡ unless_way w v
+  unless_free x = unrefused w v (sym by ∙ x)
 
-  pub unless_misused : w ≡ Misused → Refuse Syntax ≡ unless_way w v
-  unfolding unless_way
-  unless_misused x = rw x refl
+  pub unless_refused : (why : Refusal) → o ≡ Some why → Refuse why ≡ unless_way w v
+  unless_refused why x = refused w why v (sym by ∙ x)
 
-pub ruleset unless_laws = (unless_nothing, unless_undefined, unless_secured, unless_misused)
+pub ruleset unless_laws = (unless_free, unless_refused)
 
 -- what is wrong, as it was found
 pub unless_found : (r v : Way) (w x : Complaint) → r ≡ unless_way w v → w ≡ x → r ≡ unless_way x v
 unless_found r v w x e f = e ∙ ap (λ (y : Complaint). unless_way y v) f
 
-module _ (page env temp perm : List ℕ) (start stop n : ℕ) (e : n ≡ get_or page start 0) (h : Head) (f : h ≡ head_at page (start + 1) stop) where
-  pub list_none : h ≡ Past → (w : Way) → w ≡ unless_way (worse (writing_in (service page) (area n)) (complaint (view page env temp perm) [] (named (part page 0 0)))) (Length n 0 0 stop) → w ≡ list_way (view page env temp perm) (get_or page start 0) stop (head_at page (start + 1) stop)
+module _ (page env temp perm : List ℕ) (start stop n : ℕ) (e : n ≡ get_or page start 0) (h : Option Tlv) (f : h ≡ head_at page (start + 1) stop) where
+  pub list_none : h ≡ None → (w : Way) → w ≡ unless_way (worse (writing_in (service page) (area n)) (complaint (view page env temp perm) [] (named (part page 0 0)))) (Length n 0 0 stop) → w ≡ list_way (view page env temp perm) (get_or page start 0) stop (head_at page (start + 1) stop)
   unfolding list_way length_way view seen
   list_none x w y = rw (← f, x, ← e) y
 
-  module _ (tag from to : ℕ) (x : h ≡ Tlv tag from to) where
-    pub list_inside : stop ≤ length page → to ≤ length page
-    list_inside l = let i = tlv_in page (start + 1) stop tag from to (sym f ∙ x) in omega arith
+  module _ (v : Tlv) (x : h ≡ Some v) where
+    pub list_inside : stop ≤ length page → v.stop ≤ length page
+    list_inside l = let i = tlv_in page (start + 1) stop v.tag v.start v.stop (sym f ∙ x) in omega arith
 
-    pub list_held : (w : Way) → w ≡ unless_way (worse (writing_in (service page) (area n)) (complaint (view page env temp perm) [] (named (part page from to)))) (Length n from to stop) → w ≡ list_way (view page env temp perm) (get_or page start 0) stop (head_at page (start + 1) stop)
+    pub list_held : (w : Way) → w ≡ unless_way (worse (writing_in (service page) (area n)) (complaint (view page env temp perm) [] (named (part page v.start v.stop)))) (Length n v.start v.stop stop) → w ≡ list_way (view page env temp perm) (get_or page start 0) stop (head_at page (start + 1) stop)
     unfolding list_way length_way view seen
     list_held w y = rw (← f, x, ← e) y
 
 pub ruleset list_laws = (list_none, list_inside, list_held)
 
 module _ (tag start stop : ℕ) (b c : Bool) (e : b ≡ c) where
-  pub allowed_sent : b ≡ true → Send tag start stop ≡ cond c (Send tag start stop) (Refuse Disallowed)
+  pub allowed_sent : b ≡ true → send_tlv tag start stop ≡ cond c (send_tlv tag start stop) (Refuse Disallowed)
   allowed_sent x = rw (← e, x) refl
 
-  pub allowed_not : b ≡ false → Refuse Disallowed ≡ cond c (Send tag start stop) (Refuse Disallowed)
+  pub allowed_not : b ≡ false → Refuse Disallowed ≡ cond c (send_tlv tag start stop) (Refuse Disallowed)
   allowed_not x = rw (← e, x) refl
 
 pub ruleset allowed_laws = (allowed_sent, allowed_not)
 
-pub send_is : (page env temp perm : List ℕ) (tag start stop : ℕ) (w : Complaint) → w ≡ execute_complaint (view page env temp perm) (execute_of page tag start stop) → (v : Way) → v ≡ cond (allowed_by (get_or page (type_at (execute_of page tag start stop)) 0) (get_or (slots env) 2 free)) (Send tag start stop) (Refuse Disallowed)
+pub send_is : (page env temp perm : List ℕ) (tag start stop : ℕ) (w : Complaint) → w ≡ execute_complaint (view page env temp perm) (execute_of page tag start stop) → (v : Way) → v ≡ cond (allowed_by (get_or page (type_at (execute_of page tag start stop)) 0) (get_or (slots env) 2 free)) (send_tlv tag start stop) (Refuse Disallowed)
     → (r : Way) → r ≡ unless_way w v → r ≡ send_way (view page env temp perm) tag start stop
 unfolding send_way allowed view seen
 send_is page env temp perm tag start stop w e v f r g = rw (← e, ← f) g
 
 module _ (page env temp perm : List ℕ) (unit tag start stop : ℕ) where
   abbrev codes : Way
-  codes = code_way (view page env temp perm) unit (Tlv tag start stop)
+  codes = code_way (view page env temp perm) unit (some_tlv tag start stop)
 
   pub code_set : tag ≡ 0x40 → (w : Way) → w ≡ unless_way (setting_complaint (view page env temp perm) [] (tlvs 1 page start stop)) (Store start stop) → w ≡ codes
   unfolding code_way way_by byte_code view seen
@@ -198,19 +205,19 @@ module _ (page env temp perm : List ℕ) (unit tag start stop : ℕ) where
 
 pub ruleset code_laws = (code_set, code_back, code_branch, code_exit, code_send, code_length, code_other)
 
-module _ (page s env temp perm : List ℕ) (p : s ≡ page) (unit place : ℕ) (h : Head) (e : h ≡ code_at s unit place) where
-  pub at_end : h ≡ Past → End false ≡ way_at (view page env temp perm) unit place
+module _ (page s env temp perm : List ℕ) (p : s ≡ page) (unit place : ℕ) (h : Option Tlv) (e : h ≡ code_at s unit place) where
+  pub at_end : h ≡ None → End false ≡ way_at (view page env temp perm) unit place
   unfolding way_at code_way view seen
   at_end x = rw (← p, ← e, x) refl
 
-  module _ (tag start stop : ℕ) (x : h ≡ Tlv tag start stop) where
-    pub at_ordered : start ≤ stop
+  module _ (v : Tlv) (x : h ≡ Some v) where
+    pub at_ordered : v.start ≤ v.stop
     at_ordered = (code_tlv s unit place (sym e ∙ x)).1
 
-    pub at_inside : stop ≤ length s
+    pub at_inside : v.stop ≤ length s
     at_inside = (code_tlv s unit place (sym e ∙ x)).2
 
-    pub at_code : (w : Way) → w ≡ code_way (view s env temp perm) unit (Tlv tag start stop) → w ≡ way_at (view page env temp perm) unit place
+    pub at_code : (w : Way) → w ≡ code_way (view s env temp perm) unit (Some v) → w ≡ way_at (view page env temp perm) unit place
     unfolding way_at view seen
     at_code w y = rw (← p, ← e, x) y
 

@@ -1,5 +1,5 @@
 -- Where a step leads, and the plan of the rules that this stands for.
-use Rattle.std.specs.Prelude.{ℕ, ◌+◌, ◌≤◌, ◌%◌, true, false, cond, List, [], length, get_or, ltb, eqb}
+use Rattle.std.specs.Prelude.{ℕ, ◌+◌, ◌≤◌, ◌%◌, true, false, cond, List, [], length, get_or, ltb, eqb, Option, Some, None, Result, Ok, Err}
 use Rattle.rules.specs.Bytes.{part}
 use Rattle.rules.specs.Tlv.{head_at}
 use Rattle.rules.specs.Tlvs.{tlvs}
@@ -16,17 +16,20 @@ use Rattle.rules.specs.Step.{Plan, refuses, does, runs_out, onwards, jump, away,
 use Rattle.rules.specs.declared.Complaint.{Complaint}
 use Rattle.rules.specs.declared.Complaint.TheVariants.{Nothing, Undefined, Secured, Misused}
 use Rattle.rules.specs.declared.Refusal.TheVariants.{Syntax, Variable, Anchor, Memory, Security, Disallowed}
-use Rattle.rules.specs.declared.Head.{Head}
-use Rattle.rules.specs.declared.Head.TheVariants.{Tlv, Past}
 use Rattle.rules.specs.declared.Target.{Target}
 use Rattle.rules.specs.declared.Target.TheVariants.{Unit as UnitAt, Lacking, Other}
 use Rattle.rules.specs.declared.Action.{Action}
 use Rattle.rules.specs.declared.Action.TheVariants.{Pass, Next, Quit, Back as GoBack, Retry, Go}
-use Rattle.branching.specs.declared.Branch.{Branch}
-use Rattle.branching.specs.declared.Branch.TheVariants.{Refused, Onwards, Towards}
 use Rattle.branching.specs.Branch.{branch_choice}
 use Rattle.ways.specs.declared.Way.{Way}
 use Rattle.ways.specs.declared.Way.TheVariants.{Enter, Place, End, Refuse, Away, Back, Store, Length, Send}
+use Rattle.rules.specs.declared.Tlv.{Tlv}
+use Rattle.rules.specs.declared.Span.{Span}
+use Rattle.rules.specs.declared.Refusal.{Refusal}
+
+-- a command of a tag and its value
+abbrev pub send_tlv : ℕ → ℕ → ℕ → Way
+send_tlv tag start stop = Send (record { tag = tag; start = start; stop = stop })
 
 -- by the reference from a place up to another
 unfoldable pub way_to : ℕ → ℕ → Target → Way
@@ -35,10 +38,10 @@ way_to start stop Lacking = Refuse Anchor
 way_to start stop Other = Away start stop
 
 -- 8.5
-unfoldable pub branch_way : List ℕ → ℕ → Branch → Way
-branch_way s next (Refused r) = Refuse r
-branch_way s next Onwards = Place next
-branch_way s next (Towards start stop) = way_to start stop (target s (part s start stop))
+unfoldable pub branch_way : List ℕ → ℕ → Result (Option Span) Refusal → Way
+branch_way s next (Err r) = Refuse r
+branch_way s next (Ok None) = Place next
+branch_way s next (Ok (Some p)) = way_to p.from p.end (target s (part s p.from p.end))
 
 -- 8.6: with no command in hand a retry ends the page
 unfoldable pub action_way : List ℕ → ℕ → Action → Way
@@ -65,15 +68,15 @@ unfoldable pub length_way : Card → ℕ → ℕ → ℕ → ℕ → Way
 length_way c n from to stop =
     unless_way (worse (writing_in (service c.run.page) (area n)) (complaint c [] (named (part c.run.page from to)))) (Length n from to stop)
 
-unfoldable pub list_way : Card → ℕ → ℕ → Head → Way
-list_way c n stop (Tlv tag from to) = length_way c n from to stop
-list_way c n stop Past = length_way c n 0 0 stop
+unfoldable pub list_way : Card → ℕ → ℕ → Option Tlv → Way
+list_way c n stop (Some h) = length_way c n h.start h.stop stop
+list_way c n stop None = length_way c n 0 0 stop
 
 -- 8.7
 unfoldable pub send_way : Card → ℕ → ℕ → ℕ → Way
 send_way c tag start stop =
     let x = execute_of c.run.page tag start stop in
-    unless_way (execute_complaint c x) (cond (allowed c x) (Send tag start stop) (Refuse Disallowed))
+    unless_way (execute_complaint c x) (cond (allowed c x) (send_tlv tag start stop) (Refuse Disallowed))
 
 unfoldable pub way_by : Card → ℕ → ℕ → ℕ → ℕ → ByteCode → Way
 way_by c unit tag start stop setting_variables = unless_way (setting_complaint c [] (tlvs 1 c.run.page start stop)) (Store start stop)
@@ -84,9 +87,9 @@ way_by c unit tag start stop executing = send_way c tag start stop
 way_by c unit tag start stop getting_length = list_way c (get_or c.run.page start 0) stop (head_at c.run.page (start + 1) stop)
 way_by c unit tag start stop unknown = Refuse Syntax
 
-unfoldable pub code_way : Card → ℕ → Head → Way
-code_way c unit (Tlv tag start stop) = way_by c unit tag start stop (byte_code tag)
-code_way c unit Past = End false
+unfoldable pub code_way : Card → ℕ → Option Tlv → Way
+code_way c unit (Some h) = way_by c unit h.tag h.start h.stop (byte_code h.tag)
+code_way c unit None = End false
 
 -- the step of a card that shows no more than c does, at a place of a unit
 unfoldable pub way_at : Card → ℕ → ℕ → Way
@@ -107,7 +110,7 @@ plan_of c (Away start stop) = does c (away (part c.run.page start stop))
 plan_of c Back = does c back
 plan_of c (Store start stop) = storing (onwards stop) (set_all (tlvs 1 c.run.page start stop) c)
 plan_of c (Length n from to stop) = storing (onwards stop) (write c n 3 (shortest (length (joined c (named (part c.run.page from to))))))
-plan_of c (Send tag start stop) = issued c (command c (execute_of c.run.page tag start stop))
+plan_of c (Send v) = issued c (command c (execute_of c.run.page v.tag v.start v.stop))
 
 -- the places that a way names lie in a page of a length
 abbrev pub Inside : ℕ → Way → Type 0
@@ -119,7 +122,7 @@ Inside n (Away start stop) = Unit {0}
 Inside n Back = Unit {0}
 Inside n (Store start stop) = (start ≤ stop) × (stop ≤ n)
 Inside n (Length number from to stop) = to ≤ n
-Inside n (Send tag start stop) = (start ≤ stop) × (stop ≤ n)
+Inside n (Send v) = (v.start ≤ v.stop) × (v.stop ≤ n)
 
 -- the reference to another page has at most 65 bytes
 abbrev pub Short : List ℕ → Way → Type 0
@@ -131,4 +134,4 @@ Short s (Away start stop) = length (part s start stop) ≤ 65
 Short s Back = Unit {0}
 Short s (Store start stop) = Unit {0}
 Short s (Length number from to stop) = Unit {0}
-Short s (Send tag start stop) = Unit {0}
+Short s (Send v) = Unit {0}

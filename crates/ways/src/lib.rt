@@ -2,7 +2,6 @@
 #![tactic(auto)]
 
 ghost use Rattle.std.specs.Prelude.{◌≡◌, cond, [], ◌+◌, ◌≤◌, length, get_or, take};
-ghost use Rattle.rules.specs.declared.Head.TheVariants.{Tlv};
 ghost use Rattle.rules.specs.declared.Refusal.TheVariants.{Disallowed};
 ghost use Rattle.rules.specs.Bytes.{part};
 ghost use Rattle.rules.specs.Tlv.{head_at};
@@ -16,18 +15,19 @@ ghost use Rattle.rules.specs.Value.{complaint};
 ghost use Rattle.rules.specs.Command.{execute_of, type_at, allowed_by};
 ghost use Rattle.rules.specs.Step.{setting_complaint};
 ghost use Rattle.slots.specs.Slots.{slots};
-ghost use Rattle.variable.specs.View.{view};
+ghost use Rattle.variable.specs.View.{view, viewed};
 ghost use Rattle.branching.specs.Branch.{branch_choice};
 ghost use Rattle.ways.specs.declared.Way.TheVariants.{Refuse, Store, Length, Send};
 ghost use Rattle.ways.specs.Way.{way_to, branch_way, exit_way, unless_way, list_way, send_way, code_way, way_at};
+ghost use Rattle.rules.specs.Built.{some_tlv};
 
-use branching::Branch;
-use rules::{Action, Complaint, Head, Refusal, Target};
+use rules::{Action, Complaint, Refusal, Target, Tlv};
+use variable::View;
 
 // To a unit of the page; to a place of the unit; to the page's end by a byte code (true) or by its unit's end (false); to a refusal;
 // to another page, by the reference from a place up to another; back;
 // to a Set Variable whose pairs stand from a place up to another; to a Get Length of a number, with its list from a place up to another and its end;
-// to a command, by its tag and its value.
+// to a command, by its TLV.
 #[derive(Clone, Copy)]
 pub enum Way {
     Enter(usize),
@@ -38,10 +38,11 @@ pub enum Way {
     Back,
     Store(usize, usize),
     Length(u8, usize, usize, usize),
-    Send(u8, usize, usize),
+    Send(Tlv),
 }
 
 // By the reference that stands in the page from a place up to another.
+#[tactic(auto, using(crate::proofs::WayLaws::to_laws))]
 fn way_to(page: &[u8], start: usize, stop: usize) -> Way
     ensures { result ≡ way_to start stop (target page.now (part page.now start stop)) }
 {
@@ -53,185 +54,156 @@ fn way_to(page: &[u8], start: usize, stop: usize) -> Way
 }
 
 // 8.5 Branch On Variable Value.
-fn branch_way<'a>(
-    page: &'a [u8],
-    env: &'a [u8; 16640],
-    temp: &'a [u8; 16640],
-    perm: &'a [u8; 17920],
-    start: usize,
-    stop: usize,
-) -> Way
-    requires { (start ≤ stop) × (stop ≤ length page.now) }
-    ensures { result ≡ branch_way page.now stop (branch_choice (view page.now env.now temp.now perm.now) start stop) }
+#[tactic(auto, using(crate::proofs::WayLaws::branch_laws))]
+fn branch_way(view: View, start: usize, stop: usize) -> Way
+    requires { (start ≤ stop) × (stop ≤ length view.page.now) }
+    ensures { result ≡ branch_way view.entry.page.now stop (branch_choice (viewed view.entry) start stop) }
 {
-    match branching::branch_choice(page, env, temp, perm, start, stop) {
-        Branch::Refused(why) => Way::Refuse(why),
-        Branch::Onwards => Way::Place(stop),
-        Branch::Towards(from, to) => way_to(page, from, to),
+    match branching::branch_choice(view, start, stop) {
+        Err(why) => Way::Refuse(why),
+        Ok(None) => Way::Place(stop),
+        Ok(Some(span)) => way_to(view.page, span.from, span.end),
     }
 }
 
 // 8.6 Exit.
-fn exit_way(page: &[u8], unit: usize, tag: u8, start: usize, stop: usize) -> Way
-    requires { stop ≤ length page.now }
-    ensures { result ≡ exit_way page.now unit tag start stop }
+#[tactic(auto, using(crate::proofs::WayLaws::exit_laws))]
+fn exit_way(page: &[u8], unit: usize, tlv: Tlv) -> Way
+    requires { tlv.stop ≤ length page.now }
+    ensures { result ≡ exit_way page.now unit tlv.tag tlv.start tlv.stop }
 {
-    if tlv::attribute_of(page, tag, start, stop) % 2 == 1 {
+    if tlv::attribute_of(page, tlv) % 2 == 1 {
         return Way::End(true);
     }
     match handler::handle(page, unit, 0x10) {
-        Action::Pass => Way::End(true),
-        Action::Next => Way::Place(stop),
-        Action::Quit => Way::End(true),
+        Action::Pass | Action::Quit | Action::Retry => Way::End(true),
+        Action::Next => Way::Place(tlv.stop),
         Action::Back => Way::Back,
-        Action::Retry => Way::End(true),
         Action::Go(from, to) => way_to(page, from, to),
     }
 }
 
 // 16, 19 and 17 go before what else may be refused.
+#[tactic(auto, using(crate::proofs::WayLaws::unless_laws))]
 fn unless(wrong: Complaint, way: Way) -> Way
     ensures { result ≡ unless_way wrong way }
 {
-    match wrong {
-        Complaint::Nothing => way,
-        Complaint::Undefined => Way::Refuse(Refusal::Variable),
-        Complaint::Secured => Way::Refuse(Refusal::Security),
-        Complaint::Misused => Way::Refuse(Refusal::Syntax),
+    match variable::refusal_of(wrong) {
+        Some(why) => Way::Refuse(why),
+        None => way,
     }
 }
 
 // 8.1 Set Variable.
-fn store_way<'a>(
-    page: &'a [u8],
-    env: &'a [u8; 16640],
-    temp: &'a [u8; 16640],
-    perm: &'a [u8; 17920],
-    start: usize,
-    stop: usize,
-) -> Way
-    requires { (start ≤ stop) × (stop ≤ length page.now) × (length page.now ≤ 4096) }
-    ensures { result ≡ unless_way (setting_complaint (view page.now env.now temp.now perm.now) [] (tlvs 1 page.now start stop)) (Store start stop) }
+#[tactic(auto, using(crate::proofs::WayLaws::unless_found))]
+fn store_way(view: View, start: usize, stop: usize) -> Way
+    requires { (start ≤ stop) × (stop ≤ length view.page.now) × (length view.page.now ≤ 4096) }
+    ensures { result ≡ unless_way (setting_complaint (viewed view.entry) [] (tlvs 1 view.entry.page.now start stop)) (Store start stop) }
 {
-    let wrong = setting::setting_complaint(page, env, temp, perm, start, stop);
-    unless(wrong, Way::Store(start, stop))
+    unless(
+        setting::setting_complaint(view, start, stop),
+        Way::Store(start, stop),
+    )
 }
 
 // 8.9 Get Length of a list from a place up to another.
-fn length_way<'a>(
-    page: &'a [u8],
-    env: &'a [u8; 16640],
-    temp: &'a [u8; 16640],
-    perm: &'a [u8; 17920],
-    n: u8,
-    from: usize,
-    to: usize,
-    stop: usize,
-) -> Way
-    requires { to ≤ length page.now }
-    ensures { result ≡ unless_way (worse (writing_in (service page.now) (area n)) (complaint (view page.now env.now temp.now perm.now) [] (named (part page.now from to)))) (Length n from to stop) }
+#[tactic(auto, using(crate::proofs::WayLaws::unless_found))]
+fn length_way(view: View, n: u8, from: usize, to: usize, stop: usize) -> Way
+    requires { to ≤ length view.page.now }
+    ensures { result ≡ unless_way (worse (writing_in (service view.entry.page.now) (area n)) (complaint (viewed view.entry) [] (named (part view.entry.page.now from to)))) (Length n from to stop) }
 {
-    let wrong = storing::length_complaint(page, env, temp, perm, n, from, to);
-    unless(wrong, Way::Length(n, from, to, stop))
+    unless(
+        storing::length_complaint(view, n, from, to),
+        Way::Length(n, from, to, stop),
+    )
 }
 
 // 8.9 Get Length; no list is an empty one.
-fn list_way<'a>(
-    page: &'a [u8],
-    env: &'a [u8; 16640],
-    temp: &'a [u8; 16640],
-    perm: &'a [u8; 17920],
-    start: usize,
-    stop: usize,
-) -> Way
-    requires { (start ≤ stop) × (stop ≤ length page.now) × (length page.now ≤ 4096) }
-    ensures { result ≡ list_way (view page.now env.now temp.now perm.now) (get_or page.now start 0) stop (head_at page.now (start + 1) stop) }
+#[tactic(auto, using(crate::proofs::WayLaws::list_laws))]
+fn list_way(view: View, start: usize, stop: usize) -> Way
+    requires { (start ≤ stop) × (stop ≤ length view.page.now) × (length view.page.now ≤ 4096) }
+    ensures { result ≡ list_way (viewed view.entry) (get_or view.entry.page.now start 0) stop (head_at view.entry.page.now (start + 1) stop) }
 {
-    let n = slice::byte_at(page, start);
-    let Head::Tlv(tag, from, to) = tlv::head_at(page, start + 1, stop) else {
-        return length_way(page, env, temp, perm, n, 0, 0, stop);
+    let n = slice::byte_at(view.page, start);
+    let Some(tlv) = tlv::head_at(view.page, start + 1, stop) else {
+        return length_way(view, n, 0, 0, stop);
     };
-    length_way(page, env, temp, perm, n, from, to, stop)
+    length_way(view, n, tlv.start, tlv.stop, stop)
 }
 
 // 22 for a type that variable '02' does not list.
-fn allowed_way<'a>(page: &'a [u8], env: &'a [u8; 16640], tag: u8, start: usize, stop: usize) -> Way
-    requires { (start ≤ stop) × (stop ≤ length page.now) }
-    ensures { result ≡ cond (allowed_by (get_or page.now (type_at (execute_of page.now tag start stop)) 0) (get_or (slots env.now) 2 free)) (Send tag start stop) (Refuse Disallowed) }
+#[tactic(auto, using(crate::proofs::WayLaws::allowed_laws))]
+fn allowed_way(page: &[u8], env: &[u8; 16640], tlv: Tlv) -> Way
+    requires { (tlv.start ≤ tlv.stop) × (tlv.stop ≤ length page.now) }
+    ensures { result ≡ cond (allowed_by (get_or page.now (type_at (execute_of page.now tlv.tag tlv.start tlv.stop)) 0) (get_or (slots env.now) 2 free)) (Send tlv) (Refuse Disallowed) }
 {
-    if execute::allowed(page, env, tag, start, stop) {
-        return Way::Send(tag, start, stop);
+    if execute::allowed(page, env, tlv) {
+        Way::Send(tlv)
+    } else {
+        Way::Refuse(Refusal::Disallowed)
     }
-    Way::Refuse(Refusal::Disallowed)
 }
 
 // 8.7 Execute USAT Command.
-fn send_way<'a>(
-    page: &'a [u8],
-    env: &'a [u8; 16640],
-    temp: &'a [u8; 16640],
-    perm: &'a [u8; 17920],
-    tag: u8,
-    start: usize,
-    stop: usize,
-) -> Way
-    requires { (start ≤ stop) × (stop ≤ length page.now) }
-    ensures { result ≡ send_way (view page.now env.now temp.now perm.now) tag start stop }
+#[tactic(auto, using(crate::proofs::WayLaws::send_is))]
+fn send_way(view: View, tlv: Tlv) -> Way
+    requires { (tlv.start ≤ tlv.stop) × (tlv.stop ≤ length view.page.now) }
+    ensures { result ≡ send_way (viewed view.entry) tlv.tag tlv.start tlv.stop }
 {
-    let wrong = execute::execute_complaint(page, env, temp, perm, tag, start, stop);
-    unless(wrong, allowed_way(page, env, tag, start, stop))
+    unless(
+        execute::execute_complaint(view, tlv),
+        allowed_way(view.page, view.environment, tlv),
+    )
 }
 
 // Where the byte code of a tag leads, whose value stands from a place up to another.
-fn code_way<'a>(
-    page: &'a [u8],
-    env: &'a [u8; 16640],
-    temp: &'a [u8; 16640],
-    perm: &'a [u8; 17920],
-    unit: usize,
-    tag: u8,
-    start: usize,
-    stop: usize,
-) -> Way
-    requires { (start ≤ stop) × (stop ≤ length page.now) × (length page.now ≤ 4096) }
-    ensures { result ≡ code_way (view page.now env.now temp.now perm.now) unit (Tlv tag start stop) }
+#[tactic(auto, using(crate::proofs::WayLaws::code_laws))]
+fn code_way(view: View, unit: usize, tlv: Tlv) -> Way
+    requires { (tlv.start ≤ tlv.stop) × (tlv.stop ≤ length view.page.now) × (length view.page.now ≤ 4096) }
+    ensures { result ≡ code_way (viewed view.entry) unit (some_tlv tlv.tag tlv.start tlv.stop) }
 {
-    if tag == 0x40 {
-        return store_way(page, env, temp, perm, start, stop);
+    if tlv.tag == 0x40 {
+        return store_way(view, tlv.start, tlv.stop);
     }
-    if tag % 128 == 0x43 {
+    if tlv.tag % 128 == 0x43 {
         return Way::Back;
     }
-    if tag == 0x44 {
-        return branch_way(page, env, temp, perm, start, stop);
+    if tlv.tag == 0x44 {
+        return branch_way(view, tlv.start, tlv.stop);
     }
-    if tag % 128 == 0x45 {
-        return exit_way(page, unit, tag, start, stop);
+    if tlv.tag % 128 == 0x45 {
+        return exit_way(view.page, unit, tlv);
     }
-    if tag % 128 == 0x46 {
-        return send_way(page, env, temp, perm, tag, start, stop);
+    if tlv.tag % 128 == 0x46 {
+        return send_way(view, tlv);
     }
-    if tag == 0x48 {
-        return list_way(page, env, temp, perm, start, stop);
+    if tlv.tag == 0x48 {
+        return list_way(view, tlv.start, tlv.stop);
     }
     Way::Refuse(Refusal::Syntax)
 }
 
 // Where the step at a place of a unit leads.
-pub fn way_at<'a>(
-    page: &'a [u8; 4096],
+#[tactic(auto, using(crate::proofs::WayLaws::at_laws))]
+pub fn way_at(
+    page: &[u8; 4096],
     len: usize,
-    env: &'a [u8; 16640],
-    temp: &'a [u8; 16640],
-    perm: &'a [u8; 17920],
+    env: &[u8; 16640],
+    temp: &[u8; 16640],
+    perm: &[u8; 17920],
     unit: usize,
     place: usize,
 ) -> Way
     ensures { result ≡ way_at (view (take len page.now) env.now temp.now perm.now) unit place }
 {
-    let s = state::page_of(page, len);
-    let Head::Tlv(tag, start, stop) = unit::code_at(s, unit, place) else {
-        return Way::End(false);
+    let view = View {
+        page: state::page_of(page, len),
+        environment: env,
+        temporary: temp,
+        permanent: perm,
     };
-    code_way(s, env, temp, perm, unit, tag, start, stop)
+    match unit::code_at(view.page, unit, place) {
+        Some(tlv) => code_way(view, unit, tlv),
+        None => Way::End(false),
+    }
 }

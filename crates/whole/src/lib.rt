@@ -1,7 +1,7 @@
 // Writes that are done whole or not at all: where there is no memory (18), both areas are as they were, byte for byte.
 #![tactic(auto)]
 
-ghost use Rattle.std.specs.Prelude.{◌≡◌, true, false, cond, List, ℕ, ◌≤◌, length};
+ghost use Rattle.std.specs.Prelude.{◌≡◌, true, false, cond, is_ok, List, ℕ, ◌≤◌, length};
 ghost use Rattle.rules.specs.Bytes.{part};
 ghost use Rattle.rules.specs.Tlvs.{tlvs};
 ghost use Rattle.rules.specs.Pieces.{named};
@@ -15,7 +15,8 @@ ghost use Rattle.records.specs.Records.{tidy_records};
 ghost use Rattle.variable.specs.View.{view};
 ghost use Rattle.results.specs.Asked.{asked};
 
-use rules::Head;
+use rules::Tlv;
+use writing::NoMemory;
 
 // Both areas get back the bytes that they had.
 fn put_back(
@@ -38,20 +39,22 @@ pub fn set_all<'a>(
     perm: &mut [u8; 17920],
     start: usize,
     stop: usize,
-) -> bool
+) -> Result<(), NoMemory>
     requires { (start ≤ stop) × (stop ≤ length page.now) × (length page.now ≤ 4096) × (length (service page.now) ≤ 16) }
-    ensures perm_value { set_all (tlvs 1 page.now start stop) (view page.now env.now temp.old perm.old) ≡ cond result (wrote (view page.now env.now temp.new perm.new)) no_room }
-    ensures temp_unchanged { result ≡ false → (temp.new ≡ temp.old) × (perm.new ≡ perm.old) }
+    ensures perm_value { set_all (tlvs 1 page.now start stop) (view page.now env.now temp.old perm.old) ≡ cond (is_ok result) (wrote (view page.now env.now temp.new perm.new)) no_room }
+    ensures temp_unchanged { is_ok result ≡ false → (temp.new ≡ temp.old) × (perm.new ≡ perm.old) }
     ensures temp_after { tidy_slots temp.old ≡ true → tidy_slots temp.new ≡ true }
     ensures perm_after { tidy_records perm.old ≡ true → tidy_records perm.new ≡ true }
 {
     let temporary = *temp;
     let permanent = *perm;
-    if setting::set_all(page, env, temp, perm, start, stop) {
-        return true;
+    match setting::set_all(page, env, temp, perm, start, stop) {
+        Ok(()) => Ok(()),
+        Err(NoMemory) => {
+            put_back(temp, perm, temporary, permanent);
+            Err(NoMemory)
+        }
     }
-    put_back(temp, perm, temporary, permanent);
-    false
 }
 
 // The length of the variables of a list together, in the shortest form, as a value of a variable; or nothing is written.
@@ -63,20 +66,22 @@ pub fn set_length<'a>(
     n: u8,
     from: usize,
     to: usize,
-) -> bool
+) -> Result<(), NoMemory>
     requires { (to ≤ length page.now) × (length page.now ≤ 4096) × (length (service page.now) ≤ 16) }
-    ensures to_value { write (view page.now env.now temp.old perm.old) n 3 (shortest (length (joined (view page.now env.now temp.old perm.old) (named (part page.now from to))))) ≡ cond result (wrote (view page.now env.now temp.new perm.new)) no_room }
-    ensures temp_unchanged { result ≡ false → (temp.new ≡ temp.old) × (perm.new ≡ perm.old) }
+    ensures to_value { write (view page.now env.now temp.old perm.old) n 3 (shortest (length (joined (view page.now env.now temp.old perm.old) (named (part page.now from to))))) ≡ cond (is_ok result) (wrote (view page.now env.now temp.new perm.new)) no_room }
+    ensures temp_unchanged { is_ok result ≡ false → (temp.new ≡ temp.old) × (perm.new ≡ perm.old) }
     ensures temp_after { tidy_slots temp.old ≡ true → tidy_slots temp.new ≡ true }
     ensures perm_after { tidy_records perm.old ≡ true → tidy_records perm.new ≡ true }
 {
     let temporary = *temp;
     let permanent = *perm;
-    if setting::set_length(page, env, temp, perm, n, from, to) {
-        return true;
+    match setting::set_length(page, env, temp, perm, n, from, to) {
+        Ok(()) => Ok(()),
+        Err(NoMemory) => {
+            put_back(temp, perm, temporary, permanent);
+            Err(NoMemory)
+        }
     }
-    put_back(temp, perm, temporary, permanent);
-    false
 }
 
 // What a response brings: both results or neither.
@@ -88,19 +93,21 @@ pub fn write_results(
     at: usize,
     general: u8,
     response: &[u8],
-    after: Head,
-) -> bool
+    after: Option<Tlv>,
+) -> Result<(), NoMemory>
     requires { (length (service page.now) ≤ 16) × (at ≤ 4096) }
-    ensures by_index { (env : List ℕ) (stop : ℕ) → results (view page.now env temp.old perm.old) (asked attributes at stop) general response.now after ≡ cond result (wrote (view page.now env temp.new perm.new)) no_room }
-    ensures temp_unchanged { result ≡ false → (temp.new ≡ temp.old) × (perm.new ≡ perm.old) }
+    ensures by_index { (env : List ℕ) (stop : ℕ) → results (view page.now env temp.old perm.old) (asked attributes at stop) general response.now after ≡ cond (is_ok result) (wrote (view page.now env temp.new perm.new)) no_room }
+    ensures temp_unchanged { is_ok result ≡ false → (temp.new ≡ temp.old) × (perm.new ≡ perm.old) }
     ensures temp_after { tidy_slots temp.old ≡ true → tidy_slots temp.new ≡ true }
     ensures perm_after { tidy_records perm.old ≡ true → tidy_records perm.new ≡ true }
 {
     let temporary = *temp;
     let permanent = *perm;
-    if results::write_results(page, temp, perm, attributes, at, general, response, after) {
-        return true;
+    match results::write_results(page, temp, perm, attributes, at, general, response, after) {
+        Ok(()) => Ok(()),
+        Err(NoMemory) => {
+            put_back(temp, perm, temporary, permanent);
+            Err(NoMemory)
+        }
     }
-    put_back(temp, perm, temporary, permanent);
-    false
 }

@@ -1,12 +1,12 @@
 -- A text in its bytes: what the functions read and lay, in the shape of their needs. Assumes nothing.
-use Prim.Native.Nat.{ℕ, ◌+◌, ◌-◌, ◌≤◌, ◌<◌}
+use Prim.Native.Nat.{ℕ, suc, ◌+◌, ◌-◌, ◌≤◌, ◌<◌}
 use mathlib.Core.Bool.{Bool, true, false, cond}
 use mathlib.Core.List.{List, [], ◌∷◌, ◌++◌, append-nil}
 use mathlib.Core.Path.{◌≡◌, refl, sym, ap, ◌∙◌}
 use native.Mathlib.Omega.{arith}
 use borrow.Author.Tests.{lt-ltb, le-ltb, eq-eqb, ne_eqb}
-use lib.Dec.{eqb}
-use lib.ListN.{length, get_or, take, drop, drop_of_length-le, length-drop}
+use lib.Dec.{eqb, ltb}
+use lib.ListN.{length, get_or, take, drop, drop_of_length-le, length-drop, set, length-take}
 use lib.Seq.{take_all}
 use Rattle.pour.specs.Pour.{blank, padded, zeros}
 use Rattle.word.specs.Word.{word_in, laid_word, tidy_word, is_marked, laid_marked, tidy_marked}
@@ -21,18 +21,9 @@ module _ (p : List ℕ) where
   word_empty e = empty_word p e
 
   module _ (n : ℕ) (e : (n ≡ get_or p 0 0) × (n < 256)) where
-    pub word_all : length p - 1 < n → take (length p - 1) (drop 1 p) ≡ word_in p
-    unfolding word_in
-    word_all h =
-        rw (← e.0) (take_all (length p - 1) (drop 1 p) (simp length-drop (omega arith)) ∙ sym (take_all n (drop 1 p) (simp length-drop (omega arith))))
-
-    pub word_part : take (1 + n - 1) (drop 1 p) ≡ word_in p
-    unfolding word_in
-    word_part = let f : 1 + n - 1 ≡ n = omega arith in rw (f, e.0) refl
-
-    pub fine_long : length p ≤ n → false ≡ tidy_word p
+    pub fine_long : length p ≤ n → ltb n (length p) ≡ tidy_word p
     unfolding tidy_word
-    fine_long h = sym (simp (← e.0, le-ltb n (length p) h))
+    fine_long h = le-ltb n (length p) h ∙ sym (simp (← e.0, le-ltb n (length p) h))
 
     pub fine_zeros : n < length p → (z : Bool) → z ≡ zeros (take (length p - (1 + n)) (drop (1 + n) p)) → z ≡ tidy_word p
     unfolding tidy_word
@@ -43,14 +34,32 @@ module _ (p : List ℕ) where
   unfolding tidy_word
   fine_empty h = sym (simp (le-ltb (get_or p 0 0) (length p) (omega arith)))
 
-module _ (p y z w : List ℕ) (l : length w < length p) (e : y ≡ length w ∷ []) where
-  pub lay_is : z ≡ padded (length (take (length (y ++ drop 1 p) - 1) (drop 1 (y ++ drop 1 p)))) w → take 1 (y ++ drop 1 p) ++ (z ++ drop (length (y ++ drop 1 p) - 1) (drop 1 (y ++ drop 1 p))) ≡ laid_word (length p) w
+-- a byte set, and the bytes behind it laid
+behind : (p : List ℕ) (x : ℕ) → length (take (length (set p 0 x) - 1) (drop 1 (set p 0 x))) ≡ length p - 1
+behind [] x = refl
+behind (y ∷ ys) x = simp length-take (omega arith)
+
+set_head : (p z : List ℕ) (x : ℕ) → 0 < length p → take 1 (set p 0 x) ++ (z ++ drop (length (set p 0 x) - 1) (drop 1 (set p 0 x))) ≡ x ∷ z
+set_head [] z x l = absurd (omega arith)
+set_head (y ∷ ys) z x l =
+    let k : suc (length ys) - 1 ≡ length ys = omega arith in
+    ap (λ (t : List ℕ). x ∷ t) (rw (k, drop_of_length-le ys {i = length ys} (omega arith)) (append-nil z))
+
+module _ (p z w : List ℕ) (l : length w < length p) where
+  abbrev begun : List ℕ
+  begun = set p 0 (length w)
+
+  pub lay_is : z ≡ padded (length (take (length begun - 1) (drop 1 begun))) w → take 1 begun ++ (z ++ drop (length begun - 1) (drop 1 begun)) ≡ laid_word (length p) w
   unfolding laid_word
-  lay_is f =
-      let k : length (length w ∷ drop 1 p) - 1 ≡ length (drop 1 p) = omega arith in
-      let d : length (drop 1 p) ≡ length p - 1 = length-drop 1 p in
-      let g : z ≡ padded (length p - 1) w = (rw e at f) ∙ rw (k, take_all (length (drop 1 p)) (drop 1 p) (omega arith), d) refl in
-      rw e (ap (λ (r : List ℕ). length w ∷ r) (rw (k, drop_of_length-le (drop 1 p) {i = length (drop 1 p)} (omega arith), append-nil z) g))
+  lay_is f = set_head p z (length w) (omega arith) ∙ ap (λ (t : List ℕ). length w ∷ t) (f ∙ ap (λ (n : ℕ). padded n w) (behind p (length w)))
+
+module _ (p z w : List ℕ) (l : length w + 1 < length p) where
+  abbrev marked : List ℕ
+  marked = set p 0 1
+
+  pub lay_marked_is : z ≡ laid_word (length (take (length marked - 1) (drop 1 marked))) w → take 1 marked ++ (z ++ drop (length marked - 1) (drop 1 marked)) ≡ laid_marked (length p) w
+  unfolding laid_marked
+  lay_marked_is f = set_head p z 1 (omega arith) ∙ ap (λ (t : List ℕ). 1 ∷ t) (f ∙ ap (λ (n : ℕ). laid_word n w) (behind p 1))
 
 -- a text behind a mark
 module _ (p : List ℕ) where
@@ -103,15 +112,6 @@ module _ (p : List ℕ) where
   unfolding tidy_marked
   fine_marked e f z g = g ∙ ap tidy_word rest_all ∙ sym (simp (ne_eqb (get_or p 0 0) 0 e, eq-eqb (get_or p 0 0) 1 f))
 
-module _ (p y z w : List ℕ) (l : length w + 1 < length p) (e : y ≡ 1 ∷ []) where
-  pub lay_marked_is : z ≡ laid_word (length (take (length (y ++ drop 1 p) - 1) (drop 1 (y ++ drop 1 p)))) w → take 1 (y ++ drop 1 p) ++ (z ++ drop (length (y ++ drop 1 p) - 1) (drop 1 (y ++ drop 1 p))) ≡ laid_marked (length p) w
-  unfolding laid_marked
-  lay_marked_is f =
-      let k : length (1 ∷ drop 1 p) - 1 ≡ length (drop 1 p) = omega arith in
-      let d : length (drop 1 p) ≡ length p - 1 = length-drop 1 p in
-      let g : z ≡ laid_word (length p - 1) w = (rw e at f) ∙ rw (k, take_all (length (drop 1 p)) (drop 1 p) (omega arith), d) refl in
-      rw e (ap (λ (r : List ℕ). 1 ∷ r) (rw (k, drop_of_length-le (drop 1 p) {i = length (drop 1 p)} (omega arith), append-nil z) g))
-
 -- at the length of an array
 module _ (p q w : List ℕ) (n : ℕ) (l : length p ≡ n) where
   pub blank_at : q ≡ blank (length p) → q ≡ blank n
@@ -123,6 +123,6 @@ module _ (p q w : List ℕ) (n : ℕ) (l : length p ≡ n) where
   pub marked_at : q ≡ laid_marked (length p) w → q ≡ laid_marked n w
   marked_at e = e ∙ ap (λ (k : ℕ). laid_marked k w) l
 
-pub ruleset word_laws = (word_empty, word_all, word_part, fine_empty, fine_long, fine_zeros, lay_is)
+pub ruleset word_laws = (word_empty, fine_empty, fine_long, fine_zeros, lay_is)
 
 pub ruleset mark_laws = (mark_none, mark_zero, mark_one, behind_none, behind_part, fine_none, fine_unmarked, fine_other, fine_marked, lay_marked_is, blank_at, word_at, marked_at)

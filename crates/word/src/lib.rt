@@ -6,98 +6,80 @@ ghost use Rattle.pour.specs.Pour.{blank};
 ghost use Rattle.word.specs.Word.{word_in, laid_word, tidy_word, laid_marked, tidy_marked, is_marked};
 
 use leaf::wide;
-use pour::{all_zero, copy, fill, wipe};
+use pour::{all_zero, fill, wipe};
 
 // The text of a slice: its first byte is the text's length.
+#[tactic(auto, using(crate::proofs::WordLaws::word_laws), unfolding(crate::specs::Word::word_in))]
 pub fn word_of(p: &[u8]) -> &[u8]
     ensures { result.now ≡ word_in p.now }
 {
-    if p.len() == 0 {
+    if p.is_empty() {
         return p;
     }
-    let n = wide(p[0]);
-    if p.len() - 1 < n {
-        return &p[1..];
-    }
-    let end = 1 + n;
+    let end = p.len().min(1 + wide(p[0]));
     &p[1..end]
 }
 
 // A slice becomes a text's length, the text and zeros.
+#[tactic(auto, using(crate::proofs::WordLaws::word_laws))]
 pub fn lay_word(p: &mut [u8], w: &[u8])
     requires { (length w.now < length p.old) × (length w.now ≤ 255) }
     ensures { p.new ≡ laid_word (length p.old) w.now }
 {
-    let n = w.len();
-    let head = [n as u8];
-    copy(&mut p[0..1], &head);
+    p[0] = w.len() as u8;
     fill(&mut p[1..], w);
 }
 
 // A slice in canonical form: the text fits, and zeros follow it.
+#[tactic(auto, using(crate::proofs::WordLaws::word_laws))]
 pub fn word_fine(p: &[u8]) -> bool
     ensures { result ≡ tidy_word p.now }
 {
-    if p.len() == 0 {
+    if p.is_empty() {
         return false;
     }
     let n = wide(p[0]);
-    if p.len() <= n {
-        return false;
-    }
-    let end = 1 + n;
-    all_zero(&p[end..])
+    n < p.len() && all_zero(&p[1 + n..])
 }
 
 // A marked text: there is one where the first byte is not 0.
+#[tactic(auto, using(crate::proofs::WordLaws::mark_laws))]
 pub fn is_marked(p: &[u8]) -> bool
     ensures { result ≡ is_marked p.now }
 {
-    if p.len() == 0 {
-        return false;
-    }
-    if p[0] == 0 {
-        return false;
-    }
-    true
+    !p.is_empty() && p[0] != 0
 }
 
 // The text behind the mark.
+#[tactic(auto, using(crate::proofs::WordLaws::mark_laws))]
 pub fn marked_word(p: &[u8]) -> &[u8]
     ensures { result.now ≡ word_in (drop 1 p.now) }
 {
-    if p.len() == 0 {
-        return p;
-    }
-    word_of(&p[1..])
+    if p.is_empty() { p } else { word_of(&p[1..]) }
 }
 
+#[tactic(auto, using(crate::proofs::WordLaws::mark_laws))]
 fn lay_marked(p: &mut [u8], w: &[u8])
     requires { (length w.now + 1 < length p.old) × (length w.now ≤ 255) }
     ensures { p.new ≡ laid_marked (length p.old) w.now }
 {
-    let head = [1u8];
-    copy(&mut p[0..1], &head);
+    p[0] = 1;
     lay_word(&mut p[1..], w);
 }
 
 // A marked text in canonical form, or none and zeros.
+#[tactic(auto, using(crate::proofs::WordLaws::mark_laws))]
 pub fn marked_fine(p: &[u8]) -> bool
     ensures { result ≡ tidy_marked p.now }
 {
-    if p.len() == 0 {
-        return true;
-    }
-    if p[0] == 0 {
+    if p.is_empty() || p[0] == 0 {
         return all_zero(p);
     }
-    if p[0] != 1 {
-        return false;
-    }
-    word_fine(&p[1..])
+    p[0] == 1 && word_fine(&p[1..])
 }
 
 // The guard becomes a password.
+#[tactic(auto, using(crate::proofs::WordLaws::mark_laws))]
 pub fn lock(guard: &mut [u8; 18], password: &[u8])
     requires { length password.now ≤ 16 }
     ensures { guard.new ≡ laid_marked 18 password.now }
@@ -106,6 +88,7 @@ pub fn lock(guard: &mut [u8; 18], password: &[u8])
 }
 
 // No guard.
+#[tactic(auto, using(crate::proofs::WordLaws::mark_laws))]
 pub fn unlock(guard: &mut [u8; 18])
     ensures { guard.new ≡ blank 18 }
 {
@@ -113,6 +96,7 @@ pub fn unlock(guard: &mut [u8; 18])
 }
 
 // The command in hand, sent by a byte code.
+#[tactic(auto, using(crate::proofs::WordLaws::mark_laws))]
 pub fn hold(hand: &mut [u8; 257], command: &[u8])
     requires { length command.now ≤ 255 }
     ensures { hand.new ≡ laid_marked 257 command.now }
@@ -121,6 +105,7 @@ pub fn hold(hand: &mut [u8; 257], command: &[u8])
 }
 
 // Nothing in hand.
+#[tactic(auto, using(crate::proofs::WordLaws::mark_laws))]
 pub fn let_go(hand: &mut [u8; 257])
     ensures { hand.new ≡ blank 257 }
 {
@@ -128,6 +113,7 @@ pub fn let_go(hand: &mut [u8; 257])
 }
 
 // The reference of the page wanted.
+#[tactic(auto, using(crate::proofs::WordLaws::mark_laws))]
 pub fn want(wanted: &mut [u8; 66], reference: &[u8])
     requires { length reference.now ≤ 65 }
     ensures { wanted.new ≡ laid_word 66 reference.now }
@@ -136,6 +122,7 @@ pub fn want(wanted: &mut [u8; 66], reference: &[u8])
 }
 
 // No page is wanted.
+#[tactic(auto, using(crate::proofs::WordLaws::mark_laws))]
 pub fn want_none(wanted: &mut [u8; 66])
     ensures { wanted.new ≡ blank 66 }
 {

@@ -3,7 +3,7 @@
 use Prim.Native.Nat.{ℕ, ◌-◌, ◌≤◌, ◌<◌}
 use mathlib.Core.Bool.{Bool, true, false, cond}
 use mathlib.Core.List.{List}
-use mathlib.Core.Path.{◌≡◌, refl}
+use mathlib.Core.Path.{◌≡◌, refl, subst}
 use native.Mathlib.Omega.{arith}
 use lib.ListN.{length, set}
 use borrow.Author.Tests.{lt-ltb, le-ltb}
@@ -11,7 +11,8 @@ use Rattle.rules.specs.Page.{service}
 use Rattle.rules.specs.Card.{Slot, held, Record, stored, with_temporary, with_permanent}
 use Rattle.rules.specs.Store.{area, place_for, value_of, value_bytes, room, record_room, wrote, no_room, write_temporary, write_permanent, write_in, write}
 use Rattle.slots.specs.Slots.{slots}
-use Rattle.records.specs.Records.{records}
+use Rattle.records.specs.Records.{IsPlace, records}
+use Rattle.std.specs.Prelude.{Option, Some, None}
 use Rattle.records.proofs.RecordLaws.{sixty_four}
 use Rattle.variable.specs.View.{seen, view}
 
@@ -30,24 +31,35 @@ module _ (page env t perm b : List ℕ) (k ty r : ℕ) (is : (x : Slot) → leng
 
 pub ruleset temporary_laws = (temporary_full, temporary_wrote, not_refused)
 
-module _ (page env temp p b id : List ℕ) (n ty k : ℕ) (own : id ≡ service page) (is : k ≡ place_for id n (records p)) where
-  pub permanent_crowded : 64 ≤ k → write_permanent (view page env temp p) (place_for (service page) n (records p)) (stored (service page) n ty b) ≡ no_room
-  unfolding write_permanent view seen
-  permanent_crowded h = rw (← own, ← is) (simp (le-ltb k (length (records p)) (omega (arith, sixty_four p))))
+module _ (page env temp p b id : List ℕ) (n ty : ℕ) (own : id ≡ service page) (o : Option ℕ) (found : IsPlace o (place_for id n (records p))) where
+  module _ (x : o ≡ None) where
+    nowhere : place_for id n (records p) ≡ 64
+    nowhere = subst (λ q. IsPlace q (place_for id n (records p))) x found
 
-  module _ (h : k < 64) (r : ℕ) (sum : (x : Record) → length (value_bytes (value_of x)) ≡ length b → r ≡ record_room (set (records p) k x)) where
-    pub permanent_full : 2048 < r → write_permanent (view page env temp p) (place_for (service page) n (records p)) (stored (service page) n ty b) ≡ no_room
-    unfolding write_permanent view seen value_of value_bytes
-    permanent_full l = rw (← own, ← is) (simp (lt-ltb k (length (records p)) (omega (arith, sixty_four p)), lt-ltb _ _ (rw (sum (stored id n ty b) refl) at l)))
+    pub permanent_crowded : write_permanent (view page env temp p) (place_for (service page) n (records p)) (stored (service page) n ty b) ≡ no_room
+    unfolding write_permanent view seen
+    permanent_crowded = rw (← own, nowhere) (simp (le-ltb 64 (length (records p)) (omega (arith, sixty_four p))))
 
-    pub permanent_wrote : r ≤ 2048 → (q : List ℕ) → records q ≡ set (records p) k (stored id n ty b) → write_permanent (view page env temp p) (place_for (service page) n (records p)) (stored (service page) n ty b) ≡ wrote (view page env temp q)
-    unfolding write_permanent view seen with_permanent value_of value_bytes
-    permanent_wrote l q e = rw (← own, ← is) (simp (lt-ltb k (length (records p)) (omega (arith, sixty_four p)), le-ltb _ _ (rw (sum (stored id n ty b) refl) at l), e))
+  module _ (k : ℕ) (x : o ≡ Some k) where
+    place : (k ≡ place_for id n (records p)) × (k < 64)
+    place = subst (λ q. IsPlace q (place_for id n (records p))) x found
+
+    pub permanent_below : k < 64
+    permanent_below = place.1
+
+    module _ (r : ℕ) (sum : (x : Record) → length (value_bytes (value_of x)) ≡ length b → r ≡ record_room (set (records p) k x)) where
+      pub permanent_full : 2048 < r → write_permanent (view page env temp p) (place_for (service page) n (records p)) (stored (service page) n ty b) ≡ no_room
+      unfolding write_permanent view seen value_of value_bytes
+      permanent_full l = let h = place.1 in rw (← own, ← place.0) (simp (lt-ltb k (length (records p)) (omega (arith, sixty_four p)), lt-ltb _ _ (rw (sum (stored id n ty b) refl) at l)))
+
+      pub permanent_wrote : r ≤ 2048 → (q : List ℕ) → records q ≡ set (records p) k (stored id n ty b) → write_permanent (view page env temp p) (place_for (service page) n (records p)) (stored (service page) n ty b) ≡ wrote (view page env temp q)
+      unfolding write_permanent view seen with_permanent value_of value_bytes
+      permanent_wrote l q e = let h = place.1 in rw (← own, ← place.0) (simp (lt-ltb k (length (records p)) (omega (arith, sixty_four p)), le-ltb _ _ (rw (sum (stored id n ty b) refl) at l), e))
 
 pub service_short : (page id : List ℕ) → id ≡ service page → length (service page) ≤ 16 → length id ≤ 16
 service_short page id e h = rw e h
 
-pub ruleset permanent_laws = (permanent_crowded, permanent_full, permanent_wrote, service_short, not_refused)
+pub ruleset permanent_laws = (permanent_crowded, permanent_below, permanent_full, permanent_wrote, service_short, not_refused)
 
 module _ (page env temp perm b : List ℕ) (n ty : ℕ) where
   pub write_long : 255 < length b → write (view page env temp perm) n ty b ≡ no_room

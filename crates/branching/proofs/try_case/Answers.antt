@@ -4,20 +4,8 @@ use Rattle.branching.proofs.ChooseLaws.{tried_laws}
 use borrow.Author.Rules.{rules}
 use Rattle.branching.proofs.try_case.Goals as goal
 
-pub returns-in_default : goal.returns-in_default
-returns-in_default c = search (rules, next_laws, tried_laws)
-
 pub value_complaint-requires : goal.value_complaint-requires
 value_complaint-requires c = search (rules, next_laws, tried_laws)
 
-pub returns-then-is_undefined : goal.returns-then-is_undefined
-returns-then-is_undefined c = search (rules, next_laws, tried_laws)
-
 pub value_is-requires : goal.value_is-requires
 value_is-requires c = search (rules, next_laws, tried_laws)
-
-pub returns-then-value_is : goal.returns-then-value_is
-returns-then-value_is c = search (rules, next_laws, tried_laws)
-
-pub returns : goal.returns
-returns c = search (rules, next_laws, tried_laws)

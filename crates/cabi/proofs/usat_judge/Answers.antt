@@ -6,8 +6,8 @@ use Rattle.cabi.proofs.usat_judge.Goals as goal
 pub pack-requires : goal.pack-requires
 pack-requires c = search (rules, pack_laws)
 
-pub returns-in-Accepted : goal.returns-in-Accepted
-returns-in-Accepted c = search (rules, pack_laws)
+pub returns-in-Ok : goal.returns-in-Ok
+returns-in-Ok c = search (rules, pack_laws)
 
-pub returns-in-Rejected : goal.returns-in-Rejected
-returns-in-Rejected c = search (rules, pack_laws)
+pub returns-in-Err : goal.returns-in-Err
+returns-in-Err c = search (rules, pack_laws)

@@ -5,11 +5,11 @@ use lib.ListN.{length}
 use Rattle.rules.specs.Tlvs.{tlvs}
 use Rattle.rules.specs.Command.{expanded}
 use Rattle.pour.specs.Pour.{poured}
-use Rattle.variable.specs.View.{view}
+use Rattle.variable.specs.View.{viewed}
 use Rattle.command.proofs.expand.Given as goal
 
 abbrev pub invariant-loop-at : goal.invariant-loop-at
-invariant-loop-at l = (length l.out ≡ length l.initial.out) × (poured l.out l.next (expanded (view l.page l.env l.temp l.perm) (tlvs 0 l.page l.at l.end)) ≡ poured l.initial.out l.place (expanded (view l.page l.env l.temp l.perm) (tlvs 0 l.page l.from l.end))) × (l.next + length (expanded (view l.page l.env l.temp l.perm) (tlvs 0 l.page l.at l.end)) ≤ length l.out)
+invariant-loop-at l = (length l.out ≡ length l.initial.out) × (poured l.out l.next (expanded (viewed l.view) (tlvs 0 l.view.page.now l.at l.end)) ≡ poured l.initial.out l.place (expanded (viewed l.view) (tlvs 0 l.view.page.now l.from l.end))) × (l.next + length (expanded (viewed l.view) (tlvs 0 l.view.page.now l.at l.end)) ≤ length l.out)
 
 abbrev pub decreases-loop-at : goal.decreases-loop-at
 decreases-loop-at l = l.end - l.at

@@ -9,8 +9,8 @@ header-next-requires c = search (rules, send_laws)
 pub join_from-requires : goal.join_from-requires
 join_from-requires c = (search rules, search (rules, value_room))
 
-pub returns-then-tag-eq0 : goal.returns-then-tag-eq0
-returns-then-tag-eq0 c = search (rules, send_laws)
+pub returns-then-tlv-eq0 : goal.returns-then-tlv-eq0
+returns-then-tlv-eq0 c = search (rules, send_laws)
 
 pub append-requires : goal.append-requires
 append-requires c = search (rules, send_laws)

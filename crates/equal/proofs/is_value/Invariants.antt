@@ -4,12 +4,12 @@ use mathlib.Core.Path.{◌≡◌}
 use lib.ListN.{length, drop}
 use Rattle.rules.specs.Bytes.{same}
 use Rattle.rules.specs.Value.{joined}
-use Rattle.variable.specs.View.{view}
+use Rattle.variable.specs.View.{viewed}
 use Rattle.piece.specs.Piece.{pieces_from}
 use Rattle.equal.proofs.is_value.Given as goal
 
 abbrev pub invariant-loop-at : goal.invariant-loop-at
-invariant-loop-at l = (l.met ≤ length l.bytes) × (same (joined (view l.page l.env l.temp l.perm) (pieces_from l.list l.page l.at l.end)) (drop l.met l.bytes) ≡ same (joined (view l.page l.env l.temp l.perm) (pieces_from l.list l.page l.from l.end)) l.bytes)
+invariant-loop-at l = (l.met ≤ length l.bytes) × (same (joined (viewed l.view) (pieces_from l.list l.view.page.now l.at l.end)) (drop l.met l.bytes) ≡ same (joined (viewed l.view) (pieces_from l.list l.view.page.now l.from l.end)) l.bytes)
 
 abbrev pub decreases-loop-at : goal.decreases-loop-at
 decreases-loop-at l = l.end - l.at

@@ -22,11 +22,11 @@ pub head_at-requires : goal.head_at-requires
 head_at-requires t c = search (rules, clean_laws)
 
 pub clean_look-requires : goal.clean_look-requires
-clean_look-requires t c = let b = head_tlv _ _ _ (sym c.in-Tlv.ensures) in
+clean_look-requires t c = let b = head_tlv _ _ _ (sym c.in-Some.ensures) in
     omega arith
 
 pub clean-requires : goal.clean-requires
-clean-requires t c = let b = head_tlv _ _ _ (sym c.in-Tlv.ensures) in
+clean-requires t c = let b = head_tlv _ _ _ (sym c.in-Some.ensures) in
     let d = agreed_in _ _ _ _ _ _ _ _ _ _ _ _ _ _ c.in-Into.ensures _ _ refl b.1 in
     omega arith
 
@@ -41,10 +41,10 @@ loop-at-smaller t c = search (rules, clean_laws)
 
 pub loop-at-preserved : goal.loop-at-preserved
 loop-at-preserved t c = (
-  t_within _ _ _ _ _ c.in-Tlv.ensures _ _ _ refl,
-  c_into _ _ _ _ _ _ _ _ _ _ _ c.loop-at.invariant.1 c.loop-at.invariant.2 c.loop-at-test.true _ c.in-Tlv.ensures _ _ _ refl _ c.cell_of-cell.ensures _ c.in-Into.ensures
+  t_within _ _ _ _ _ c.in-Some.ensures _ refl,
+  c_into _ _ _ _ _ _ _ _ _ _ _ c.loop-at.invariant.1 c.loop-at.invariant.2 c.loop-at-test.true _ c.in-Some.ensures _ refl _ c.cell_of-cell.ensures _ c.in-Into.ensures
       _ _ refl _ c.clean.ensures (ap not c.if-not-clean.false),
-  c_into_count _ _ _ _ _ _ _ _ _ _ _ c.loop-at.invariant.1 c.loop-at.invariant.2 c.loop-at-test.true _ c.in-Tlv.ensures _ _ _ refl _ c.cell_of-cell.ensures _ c.in-Into.ensures
+  c_into_count _ _ _ _ _ _ _ _ _ _ _ c.loop-at.invariant.1 c.loop-at.invariant.2 c.loop-at-test.true _ c.in-Some.ensures _ refl _ c.cell_of-cell.ensures _ c.in-Into.ensures
       _ _ refl _ c.left_after-fewer.ensures,
 )
 

@@ -30,7 +30,7 @@ pub clean_look-requires : goal.clean_look-requires
 clean_look-requires c = search (rules, next_laws, page_row_laws)
 
 pub part_clean-requires : goal.part_clean-requires
-part_clean-requires c = let b = head_tlv _ _ _ (sym c.in-Tlv.ensures) in
+part_clean-requires c = let b = head_tlv _ _ _ (sym c.in-Some.ensures) in
     let d = agreed_in _ _ _ _ _ _ _ _ _ _ _ _ _ _ c.clean_look.ensures _ _ c.in-Into.is b.1 in
     omega arith
 
@@ -39,13 +39,13 @@ loop-at-smaller-in-Over c = search (rules, next_laws, page_row_laws)
 
 pub loop-at-preserved-in-Over : goal.loop-at-preserved-in-Over
 loop-at-preserved-in-Over c = (
-  next_within _ _ _ _ c.head_at.ensures _ _ _ c.in-Tlv.is _ (omega arith),
-  r_over _ _ _ _ _ c.loop-at.invariant.1 c.loop-at-test.true _ c.head_at.ensures _ _ _ c.in-Tlv.is _ _ c.loop-at.invariant.2 c.loop-at.invariant.3 _ c.cell_of-cell.ensures _ c.clean_look.ensures c.in-Over.is,
-  r_over_units _ _ _ _ _ c.loop-at.invariant.1 c.loop-at-test.true _ c.head_at.ensures _ _ _ c.in-Tlv.is _ _ c.loop-at.invariant.2 c.loop-at.invariant.3 _ c.cell_of-cell.ensures _ c.clean_look.ensures c.in-Over.is _ c.left_after-fewer_units.ensures,
-  r_over_modifiers _ _ _ _ _ c.loop-at.invariant.1 c.loop-at-test.true _ c.head_at.ensures _ _ _ c.in-Tlv.is _ _ c.loop-at.invariant.2 c.loop-at.invariant.3 _ c.cell_of-cell.ensures _ c.clean_look.ensures c.in-Over.is _ c.left_after-fewer_modifiers.ensures,
+  next_within _ _ _ _ c.head_at.ensures _ c.in-Some.is _ (omega arith),
+  r_over _ _ _ _ _ c.loop-at.invariant.1 c.loop-at-test.true _ c.head_at.ensures _ c.in-Some.is _ _ c.loop-at.invariant.2 c.loop-at.invariant.3 _ c.cell_of-cell.ensures _ c.clean_look.ensures c.in-Over.is,
+  r_over_units _ _ _ _ _ c.loop-at.invariant.1 c.loop-at-test.true _ c.head_at.ensures _ c.in-Some.is _ _ c.loop-at.invariant.2 c.loop-at.invariant.3 _ c.cell_of-cell.ensures _ c.clean_look.ensures c.in-Over.is _ c.left_after-fewer_units.ensures,
+  r_over_modifiers _ _ _ _ _ c.loop-at.invariant.1 c.loop-at-test.true _ c.head_at.ensures _ c.in-Some.is _ _ c.loop-at.invariant.2 c.loop-at.invariant.3 _ c.cell_of-cell.ensures _ c.clean_look.ensures c.in-Over.is _ c.left_after-fewer_modifiers.ensures,
   c.loop-at.invariant.4,
   c.loop-at.invariant.5,
-  unseen_on _ _ _ _ _ c.loop-at.invariant.6 c.loop-at-test.true _ c.head_at.ensures _ _ _ c.in-Tlv.is _ c.anchor_slot-slot.ensures.0 c.anchor_slot-slot.ensures.1,
+  unseen_on _ _ _ _ _ c.loop-at.invariant.6 c.loop-at-test.true _ c.head_at.ensures _ c.in-Some.is _ c.anchor_slot-slot.ensures.0 c.anchor_slot-slot.ensures.1,
 )
 
 pub loop-at-smaller : goal.loop-at-smaller
@@ -53,13 +53,13 @@ loop-at-smaller c = search (rules, next_laws, page_row_laws)
 
 pub loop-at-preserved : goal.loop-at-preserved
 loop-at-preserved c = (
-  next_within _ _ _ _ c.head_at.ensures _ _ _ c.in-Tlv.is _ (omega arith),
-  r_into _ _ _ _ _ c.loop-at.invariant.1 c.loop-at-test.true _ c.head_at.ensures _ _ _ c.in-Tlv.is _ _ c.loop-at.invariant.2 c.loop-at.invariant.3 _ c.cell_of-cell.ensures _ c.clean_look.ensures _ _ c.in-Into.is _ _ c.loop-at.invariant.4 c.loop-at.invariant.5 _ c.loop-at.invariant.6 _ c.anchor_slot-slot.ensures.0 _ c.part_clean.ensures (ap not c.if-not-part_clean.false),
-  r_into_units _ _ _ _ _ c.loop-at.invariant.1 c.loop-at-test.true _ c.head_at.ensures _ _ _ c.in-Tlv.is _ _ c.loop-at.invariant.2 c.loop-at.invariant.3 _ c.cell_of-cell.ensures _ c.clean_look.ensures _ _ c.in-Into.is _ c.left_after-fewer_units.ensures,
-  r_into_modifiers _ _ _ _ _ c.loop-at.invariant.1 c.loop-at-test.true _ c.head_at.ensures _ _ _ c.in-Tlv.is _ _ c.loop-at.invariant.2 c.loop-at.invariant.3 _ c.cell_of-cell.ensures _ c.clean_look.ensures _ _ c.in-Into.is _ c.left_after-fewer_modifiers.ensures,
+  next_within _ _ _ _ c.head_at.ensures _ c.in-Some.is _ (omega arith),
+  r_into _ _ _ _ _ c.loop-at.invariant.1 c.loop-at-test.true _ c.head_at.ensures _ c.in-Some.is _ _ c.loop-at.invariant.2 c.loop-at.invariant.3 _ c.cell_of-cell.ensures _ c.clean_look.ensures _ _ c.in-Into.is _ _ c.loop-at.invariant.4 c.loop-at.invariant.5 _ c.loop-at.invariant.6 _ c.anchor_slot-slot.ensures.0 _ c.part_clean.ensures (ap not c.if-not-part_clean.false),
+  r_into_units _ _ _ _ _ c.loop-at.invariant.1 c.loop-at-test.true _ c.head_at.ensures _ c.in-Some.is _ _ c.loop-at.invariant.2 c.loop-at.invariant.3 _ c.cell_of-cell.ensures _ c.clean_look.ensures _ _ c.in-Into.is _ c.left_after-fewer_units.ensures,
+  r_into_modifiers _ _ _ _ _ c.loop-at.invariant.1 c.loop-at-test.true _ c.head_at.ensures _ c.in-Some.is _ _ c.loop-at.invariant.2 c.loop-at.invariant.3 _ c.cell_of-cell.ensures _ c.clean_look.ensures _ _ c.in-Into.is _ c.left_after-fewer_modifiers.ensures,
   c.loop-at.invariant.4,
   c.loop-at.invariant.5,
-  unseen_on _ _ _ _ _ c.loop-at.invariant.6 c.loop-at-test.true _ c.head_at.ensures _ _ _ c.in-Tlv.is _ c.anchor_slot-slot.ensures.0 c.anchor_slot-slot.ensures.1,
+  unseen_on _ _ _ _ _ c.loop-at.invariant.6 c.loop-at-test.true _ c.head_at.ensures _ c.in-Some.is _ c.anchor_slot-slot.ensures.0 c.anchor_slot-slot.ensures.1,
 )
 
 pub returns : goal.returns

@@ -7,8 +7,8 @@ use Rattle.rules.specs.Page.{page_row}
 use Rattle.rules.specs.Forms.{taken_in}
 use Rattle.forms.proofs.taken.Given as goal
 
-abbrev pub invariant-loop-at : goal.invariant-loop-at
-invariant-loop-at l = (l.end ≤ length l.s) × (taken_in l.s l.name l.place (tlvs 0 l.s l.at l.end) ≡ taken_in l.s l.name l.place (page_row l.s))
+abbrev pub invariant-loop-tlv : goal.invariant-loop-tlv
+invariant-loop-tlv l = (l.end ≤ length l.s) × (taken_in l.s l.name l.place (tlvs 0 l.s l.at l.end) ≡ taken_in l.s l.name l.place (page_row l.s))
 
-abbrev pub decreases-loop-at : goal.decreases-loop-at
-decreases-loop-at l = l.end - l.at
+abbrev pub decreases-loop-tlv : goal.decreases-loop-tlv
+decreases-loop-tlv l = l.end - l.at

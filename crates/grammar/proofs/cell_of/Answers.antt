@@ -19,6 +19,6 @@ pub returns-then-kind-lt12 : goal.returns-then-kind-lt12
 unfolding hex hex_to cells8
 returns-then-kind-lt12 c = cell_8 _ _ _ (omega arith) c.column_of.ensures.value (omega arith) (omega arith)
 
-pub returns : goal.returns
+pub returns-else-kind-lt12 : goal.returns-else-kind-lt12
 unfolding hex hex_to cells12
-returns c = cell_12 _ _ _ (omega arith) c.column_of.ensures.value (omega arith) (omega arith)
+returns-else-kind-lt12 c = cell_12 _ _ _ (omega arith) c.column_of.ensures.value (omega arith) (omega arith)

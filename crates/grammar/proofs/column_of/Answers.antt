@@ -8,17 +8,17 @@ use Rattle.grammar.proofs.column_of.Goals as goal
 pub returns-then-tag-lt128 : goal.returns-then-tag-lt128
 unfolding hex hex_to columns
 returns-then-tag-lt128 c =
-    let all = column_plain _ _ (omega arith) c.slot_of-i.ensures.value c.if-c-lt64.true c.if-tag-lt128.true _ c.wide.ensures.0 in
+    let all = column_plain _ _ (omega arith) c.slot_of-i.ensures.value c.if-c-ge64.false c.if-tag-lt128.true _ c.wide-then-tag-lt128.ensures.0 in
     record { value = all.0; upper_bound = all.1 }
 
-pub returns-then-c-lt64 : goal.returns-then-c-lt64
+pub returns-else-tag-lt128 : goal.returns-else-tag-lt128
 unfolding hex hex_to columns
-returns-then-c-lt64 c =
-    let all = column_unknown _ _ (omega arith) c.slot_of-i.ensures.value c.if-c-lt64.true c.if-tag-lt128.false in
+returns-else-tag-lt128 c =
+    let all = column_unknown _ _ (omega arith) c.slot_of-i.ensures.value c.if-c-ge64.false c.if-tag-lt128.false in
     record { value = all.0; upper_bound = all.1 }
 
-pub returns : goal.returns
+pub returns-then-c-ge64 : goal.returns-then-c-ge64
 unfolding hex hex_to columns
-returns c =
-    let all = column_attributed _ _ (omega arith) c.slot_of-i.ensures.value c.if-c-lt64.false _ c.wide-2.ensures.0 in
+returns-then-c-ge64 c =
+    let all = column_attributed _ _ (omega arith) c.slot_of-i.ensures.value c.if-c-ge64.true _ c.wide.ensures.0 in
     record { value = all.0; upper_bound = all.1 }

@@ -1,12 +1,7 @@
--- `hex` leaves the digits of the definition. The loop's invariant: what is left to write gives what the whole gives.
-use Prim.Native.Nat.{◌-◌}
-use mathlib.Core.Path.{◌≡◌}
-use lib.ListN.{length}
+-- What is left to write gives what the whole gives.
+use Rattle.std.proofs.Common.{◌≡◌, ◌-◌, length}
 use Rattle.lines.specs.Hex.{hexed_from, hexed}
 use Rattle.lines.proofs.hex.Given as goal
 
 abbrev pub invariant-loop-i : goal.invariant-loop-i
 invariant-loop-i l = (length l.out ≡ length l.initial.out) × (hexed_from (length l.bytes - l.i) l.i l.bytes l.out ≡ hexed l.bytes l.initial.out)
-
-abbrev pub decreases-loop-i : goal.decreases-loop-i
-decreases-loop-i l = length l.bytes - l.i

@@ -1,11 +1,7 @@
--- `judge` is the answer of the rules. The loop's invariant: the classes from the i-th on come to the answer.
-use Prim.Native.Nat.{◌≤◌, ◌-◌}
+-- `judge` is the answer of the rules. The loop's invariant: the classes that are left come to the answer.
 use Rattle.rules.specs.Loader.{judge}
 use Rattle.loader.proofs.JudgeLaws.{Left}
 use Rattle.loader.proofs.judge.Given as goal
 
-abbrev pub invariant-loop-i : goal.invariant-loop-i
-invariant-loop-i l = (l.i ≤ 6) × Left l.page l.stop l.i (judge l.page)
-
-abbrev pub decreases-loop-i : goal.decreases-loop-i
-decreases-loop-i l = 6 - l.i
+abbrev pub invariant-loop-class : goal.invariant-loop-class
+invariant-loop-class l = Left l.page l.tlv.stop l.class-index (judge l.page)

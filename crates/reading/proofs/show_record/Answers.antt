@@ -1,16 +1,6 @@
 -- `reading::show_record` meets its contract.
-use Rattle.reading.proofs.ShowLaws.{record_laws}
-use borrow.Author.Rules.{rules}
+use Rattle.reading.proofs.ShowLaws.{record_shown}
 use Rattle.reading.proofs.show_record.Goals as goal
 
-pub returns-then-service-lt1 : goal.returns-then-service-lt1
-returns-then-service-lt1 c = search (rules, record_laws)
-
-pub returns-then-service-gt16 : goal.returns-then-service-gt16
-returns-then-service-gt16 c = search (rules, record_laws)
-
-pub returns-then-k-ge64 : goal.returns-then-k-ge64
-returns-then-k-ge64 c = search (rules, record_laws)
-
-pub returns : goal.returns
-returns c = search (rules, record_laws)
+pub returns-in-Some : goal.returns-in-Some
+returns-in-Some c = record_shown _ _ _ _ c.if-service-lt1.false c.if-service-gt16.false _ c.find_record.ensures _ c.in-Some.is _ c.record_type.ensures _ c.record_value.ensures.0 c.record_value.ensures.1 c.show.ensures

@@ -5,6 +5,3 @@ use Rattle.reading.proofs.show_slot.Goals as goal
 
 pub returns-then-is_held : goal.returns-then-is_held
 returns-then-is_held c = search (rules, slot_laws)
-
-pub returns : goal.returns
-returns c = search (rules, slot_laws)

@@ -3,8 +3,8 @@ use Rattle.reading.proofs.ShowLaws.{string_laws}
 use borrow.Author.Rules.{rules}
 use Rattle.reading.proofs.show_string.Goals as goal
 
-pub returns-in_default : goal.returns-in_default
-returns-in_default c short = search (rules, string_laws)
+pub returns-in-None : goal.returns-in-None
+returns-in-None c short = search (rules, string_laws)
 
-pub returns : goal.returns
-returns c short = search (rules, string_laws)
+pub returns-in-Some : goal.returns-in-Some
+returns-in-Some c short = search (rules, string_laws)

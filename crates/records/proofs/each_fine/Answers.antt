@@ -1,16 +1,7 @@
--- `each_fine` meets its contract: what the records to come say is what all say. The measure is the records to come.
-use Rattle.records.proofs.FineLaws.{fine_laws}
+-- `each_fine` meets its contract.
 use borrow.Author.Rules.{rules}
+use Rattle.records.proofs.FineLaws.{fine_by}
 use Rattle.records.proofs.each_fine.Goals as goal
 
-pub loop-k-init : goal.loop-k-init
-loop-k-init c = search (rules, fine_laws)
-
-pub loop-k-preserved : goal.loop-k-preserved
-loop-k-preserved c = search (rules, fine_laws)
-
-pub returns-else-record_fine : goal.returns-else-record_fine
-returns-else-record_fine c = search (rules, fine_laws)
-
 pub returns : goal.returns
-returns c = search (rules, fine_laws)
+returns c = fine_by c.args.s.now (search rules) c.as_chunks.result.0.now c.as_chunks.ensures.front _ (search rules)

@@ -1,5 +1,4 @@
--- `find_from` meets its contract: the search from here finds what the search from the start does. The measure is the records to come.
-use Prim.Native.Nat.{◌-◌, ◌≤◌}
+-- `find_from` meets its contract: the search from here finds what the search from the start does.
 use mathlib.Core.Path.{◌≡◌}
 use lib.ListN.{length, drop}
 use Rattle.rules.specs.Store.{record_from}
@@ -7,7 +6,4 @@ use Rattle.records.specs.Records.{records}
 use Rattle.records.proofs.find_from.Given as goal
 
 abbrev pub invariant-loop-k : goal.invariant-loop-k
-invariant-loop-k l = (l.k ≤ 64) × (length l.s ≡ 17920) × (record_from l.k l.id l.number (drop l.k (records l.s)) ≡ record_from l.from l.id l.number (drop l.from (records l.s)))
-
-abbrev pub decreases-loop-k : goal.decreases-loop-k
-decreases-loop-k l = 64 - l.k
+invariant-loop-k l = (length l.s ≡ 17920) × (record_from l.k l.id l.number (drop l.k (records l.s)) ≡ record_from l.from l.id l.number (drop l.from (records l.s)))

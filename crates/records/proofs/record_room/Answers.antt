@@ -1,10 +1,7 @@
--- `record_room` meets its contract: the sum so far and the room of the records to come are the whole room. The measure is the records to come.
+-- `record_room` meets its contract: the sum so far and the room of the records to come are the whole room.
 use Rattle.records.proofs.RoomLaws.{room_laws}
 use borrow.Author.Rules.{rules}
 use Rattle.records.proofs.record_room.Goals as goal
-
-pub loop-k-init : goal.loop-k-init
-loop-k-init c = search (rules, room_laws)
 
 pub loop-k-preserved : goal.loop-k-preserved
 loop-k-preserved c = search (rules, room_laws)

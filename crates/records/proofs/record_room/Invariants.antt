@@ -1,5 +1,5 @@
--- `record_room` meets its contract: the sum so far and the room of the records to come are the whole room. The measure is the records to come.
-use Prim.Native.Nat.{◌+◌, ◌-◌, ◌*◌, ◌≤◌}
+-- `record_room` meets its contract: the sum so far and the room of the records to come are the whole room.
+use Prim.Native.Nat.{◌+◌, ◌*◌, ◌≤◌}
 use mathlib.Core.Path.{◌≡◌}
 use lib.ListN.{drop}
 use Rattle.rules.specs.Store.{record_room}
@@ -7,7 +7,4 @@ use Rattle.records.specs.Records.{records}
 use Rattle.records.proofs.record_room.Given as goal
 
 abbrev pub invariant-loop-k : goal.invariant-loop-k
-invariant-loop-k l = (l.k ≤ 64) × (l.sum ≤ 255 * l.k) × (l.sum + record_room (drop l.k (records l.area)) ≡ record_room (records l.area))
-
-abbrev pub decreases-loop-k : goal.decreases-loop-k
-decreases-loop-k l = 64 - l.k
+invariant-loop-k l = (l.sum ≤ 255 * l.k) × (l.sum + record_room (drop l.k (records l.area)) ≡ record_room (records l.area))

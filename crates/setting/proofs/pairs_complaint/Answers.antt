@@ -17,17 +17,14 @@ overflow_add-at c = search (rules, pair_laws)
 pub head_at-requires : goal.head_at-requires
 head_at-requires c = search (rules, pair_laws)
 
-pub enum_known-tag : goal.enum_known-tag
-enum_known-tag c = search (rules, pair_laws)
-
 pub enum_told-1 : goal.enum_told-1
 enum_told-1 c = search (rules, pair_laws)
 
 pub returns-in_default : goal.returns-in_default
 returns-in_default c = search (rules, setting_laws)
 
-pub bounds-page-at : goal.bounds-page-at
-bounds-page-at c = search (rules, pair_laws)
+pub bounds-view-at : goal.bounds-view-at
+bounds-view-at c = search (rules, pair_laws)
 
 pub pair_complaint-worst-requires : goal.pair_complaint-worst-requires
 pair_complaint-worst-requires c = search (rules, pair_laws)
@@ -42,7 +39,7 @@ pub loop-at-smaller : goal.loop-at-smaller
 loop-at-smaller c = search (rules, pair_laws)
 
 pub loop-at-preserved : goal.loop-at-preserved
-loop-at-preserved c = (search rules, search (rules, pair_laws), search (rules, pair_laws), setting_pair _ _ _ _ _ _ _ _ _ _ c.loop-at.invariant.3 (search rules) _ c.head_at.ensures _ _ _ (search rules) (search rules) _ c.pair_complaint-worst.ensures)
+loop-at-preserved c = (search rules, search (rules, pair_laws), search (rules, pair_laws), setting_pair _ _ _ _ _ _ _ _ _ _ c.loop-at.invariant.3 (search rules) _ c.head_at.ensures _ (search rules) (search rules) _ c.pair_complaint-worst.ensures)
 
 pub returns : goal.returns
 returns c = search (rules, setting_laws)

@@ -1,7 +1,8 @@
 -- `setting::set_all` meets its contract. The invariant: the pairs from here on, with what the arrays show now, come to what all pairs come to.
-use mathlib.Core.Path.{refl}
+use mathlib.Core.Path.{refl, ap}
 use Rattle.setting.proofs.RowLaws.{pair_laws}
 use Rattle.setting.proofs.SetLaws.{all_laws, still_laws}
+use Rattle.std.specs.Prelude.{is_ok}
 use borrow.Author.Rules.{rules}
 use Rattle.setting.proofs.set_all.Goals as goal
 
@@ -16,9 +17,6 @@ overflow_add-at c = search (rules, pair_laws)
 
 pub head_at-requires : goal.head_at-requires
 head_at-requires c = search (rules, pair_laws)
-
-pub enum_known-tag : goal.enum_known-tag
-enum_known-tag c = search (rules, pair_laws)
 
 pub enum_told-1 : goal.enum_told-1
 enum_told-1 c = search (rules, pair_laws)
@@ -42,16 +40,16 @@ pub loop-at-smaller : goal.loop-at-smaller
 loop-at-smaller c = search (rules, pair_laws)
 
 pub loop-at-preserved : goal.loop-at-preserved
-loop-at-preserved c = (search (rules, pair_laws), search (rules, all_laws), search (rules, still_laws), search (rules, still_laws))
+loop-at-preserved c = (search (rules, pair_laws), search (rules, all_laws, ap is_ok c.in_ok-set_one.was), search (rules, still_laws), search (rules, still_laws))
 
-pub returns-else-set_one-clause-perm_value : goal.returns-else-set_one-clause-perm_value
-returns-else-set_one-clause-perm_value c = search (rules, all_laws)
+pub returns-in_err-set_one-clause-perm_value : goal.returns-in_err-set_one-clause-perm_value
+returns-in_err-set_one-clause-perm_value c = search (rules, all_laws, ap is_ok c.in_err-set_one.was)
 
-pub returns-else-set_one-clause-temp_after : goal.returns-else-set_one-clause-temp_after
-returns-else-set_one-clause-temp_after c = search (rules, still_laws)
+pub returns-in_err-set_one-clause-temp_after : goal.returns-in_err-set_one-clause-temp_after
+returns-in_err-set_one-clause-temp_after c = search (rules, still_laws)
 
-pub returns-else-set_one-clause-perm_after : goal.returns-else-set_one-clause-perm_after
-returns-else-set_one-clause-perm_after c = search (rules, still_laws)
+pub returns-in_err-set_one-clause-perm_after : goal.returns-in_err-set_one-clause-perm_after
+returns-in_err-set_one-clause-perm_after c = search (rules, still_laws)
 
 pub returns-clause-perm_value : goal.returns-clause-perm_value
 returns-clause-perm_value c = search (rules, all_laws)

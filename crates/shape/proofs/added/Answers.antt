@@ -7,6 +7,6 @@ pub returns-then-follows-eq-SIMPLE : goal.returns-then-follows-eq-SIMPLE
 unfolding added
 returns-then-follows-eq-SIMPLE c = search (cases, c.wide.ensures.0)
 
-pub returns : goal.returns
+pub returns-else-follows-eq-SIMPLE : goal.returns-else-follows-eq-SIMPLE
 unfolding added
-returns c = search cases
+returns-else-follows-eq-SIMPLE c = search cases

@@ -19,6 +19,6 @@ pub returns-then-pairs_fill : goal.returns-then-pairs_fill
 unfolding contents
 returns-then-pairs_fill c = search (cases, was c.pairs_fill.ensures c.if-pairs_fill.true)
 
-pub returns : goal.returns
+pub returns-else-pairs_fill : goal.returns-else-pairs_fill
 unfolding contents
-returns c = search (cases, was c.pairs_fill.ensures c.if-pairs_fill.false)
+returns-else-pairs_fill c = search (cases, was c.pairs_fill.ensures c.if-pairs_fill.false)

@@ -1,12 +1,9 @@
--- `sift` meets its contract: what is done from here on comes to what is done from the start. The measure is the slots to come.
-use Prim.Native.Nat.{◌+◌, ◌-◌, ◌≤◌}
+-- `sift` meets its contract: what is done from here on comes to what is done from the start.
+use Prim.Native.Nat.{◌-◌}
 use mathlib.Core.Path.{◌≡◌}
 use lib.ListN.{length}
 use Rattle.slots.specs.Slots.{sifted}
 use Rattle.slots.proofs.sift.Given as goal
 
 abbrev pub invariant-loop-k : goal.invariant-loop-k
-invariant-loop-k l = (l.k ≤ 64) × (l.number ≡ 128 + l.k) × (length l.area ≡ 16640) × (length l.initial.area ≡ 16640) × (sifted l.numbers l.k (64 - l.k) l.area ≡ sifted l.numbers 0 64 l.initial.area)
-
-abbrev pub decreases-loop-k : goal.decreases-loop-k
-decreases-loop-k l = 64 - l.k
+invariant-loop-k l = (length l.area ≡ 16640) × (length l.initial.area ≡ 16640) × (sifted l.numbers l.k (64 - l.k) l.area ≡ sifted l.numbers 0 64 l.initial.area)

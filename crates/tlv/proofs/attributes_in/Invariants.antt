@@ -6,6 +6,3 @@ use Rattle.tlv.proofs.attributes_in.Given as goal
 
 abbrev pub invariant-loop-at : goal.invariant-loop-at
 invariant-loop-at l = attributes_in (l.end - l.at) l.s l.at ≡ attributes_in (l.end - l.from) l.s l.from
-
-abbrev pub decreases-loop-at : goal.decreases-loop-at
-decreases-loop-at l = l.end - l.at

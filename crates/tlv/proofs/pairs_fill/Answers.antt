@@ -1,17 +1,10 @@
 -- `tlv::pairs_fill` meets its contract. The invariant: the pairs from here on fill the value where those from the start do.
 use borrow.Author.Rules.{rules}
-use Rattle.tlv.proofs.Bounds.{shorter_laws}
 use Rattle.tlv.proofs.Ways.{fill_laws}
 use Rattle.tlv.proofs.pairs_fill.Goals as goal
 
-pub loop-at-smaller-in-Text : goal.loop-at-smaller-in-Text
-loop-at-smaller-in-Text c = search (rules, shorter_laws)
-
 pub loop-at-preserved-in-Text : goal.loop-at-preserved-in-Text
 loop-at-preserved-in-Text c = search (rules, fill_laws)
-
-pub loop-at-smaller : goal.loop-at-smaller
-loop-at-smaller c = search (rules, shorter_laws)
 
 pub loop-at-preserved : goal.loop-at-preserved
 loop-at-preserved c = search (rules, fill_laws)

@@ -3,12 +3,12 @@ use Prim.Native.Nat.{◌-◌}
 use mathlib.Core.Path.{◌≡◌}
 use Rattle.rules.specs.Store.{worse}
 use Rattle.rules.specs.Value.{complaint}
-use Rattle.variable.specs.View.{view}
+use Rattle.variable.specs.View.{viewed}
 use Rattle.piece.specs.Piece.{pieces_from}
 use Rattle.value.proofs.complaint_from.Given as goal
 
 abbrev pub invariant-loop-at : goal.invariant-loop-at
-invariant-loop-at l = worse l.worst (complaint (view l.page l.env l.temp l.perm) l.known (pieces_from l.list l.page l.at l.end)) ≡ complaint (view l.page l.env l.temp l.perm) l.known (pieces_from l.list l.page l.from l.end)
+invariant-loop-at l = worse l.worst (complaint (viewed l.view) l.known (pieces_from l.list l.view.page.now l.at l.end)) ≡ complaint (viewed l.view) l.known (pieces_from l.list l.view.page.now l.from l.end)
 
 abbrev pub decreases-loop-at : goal.decreases-loop-at
 decreases-loop-at l = l.end - l.at

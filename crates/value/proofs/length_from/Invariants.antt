@@ -3,13 +3,13 @@ use Prim.Native.Nat.{◌+◌, ◌-◌}
 use mathlib.Core.Path.{◌≡◌}
 use lib.ListN.{length}
 use Rattle.rules.specs.Value.{joined}
-use Rattle.variable.specs.View.{view}
+use Rattle.variable.specs.View.{viewed}
 use Rattle.piece.specs.Piece.{pieces_from}
 use Rattle.value.proofs.LengthLaws.{Counted}
 use Rattle.value.proofs.length_from.Given as goal
 
 abbrev pub invariant-loop-at : goal.invariant-loop-at
-invariant-loop-at l = Counted l.from l.at l.sum × (l.sum + length (joined (view l.page l.env l.temp l.perm) (pieces_from l.list l.page l.at l.end)) ≡ length (joined (view l.page l.env l.temp l.perm) (pieces_from l.list l.page l.from l.end)))
+invariant-loop-at l = Counted l.from l.at l.sum × (l.sum + length (joined (viewed l.view) (pieces_from l.list l.view.page.now l.at l.end)) ≡ length (joined (viewed l.view) (pieces_from l.list l.view.page.now l.from l.end)))
 
 abbrev pub decreases-loop-at : goal.decreases-loop-at
 decreases-loop-at l = l.end - l.at

@@ -4,11 +4,11 @@ use mathlib.Core.Path.{◌≡◌}
 use Rattle.rules.specs.Bytes.{part}
 use Rattle.rules.specs.Pieces.{named}
 use Rattle.rules.specs.Value.{shared_with, shared}
-use Rattle.variable.specs.View.{view}
+use Rattle.variable.specs.View.{viewed}
 use Rattle.valuetype.proofs.shared_type.Given as goal
 
 abbrev pub invariant-loop-at : goal.invariant-loop-at
-invariant-loop-at l = shared_with l.first (view l.page l.env l.temp l.perm) (named (part l.page l.at l.end)) ≡ shared (view l.page l.env l.temp l.perm) (named (part l.page l.from l.end))
+invariant-loop-at l = shared_with l.first (viewed l.view) (named (part l.view.page.now l.at l.end)) ≡ shared (viewed l.view) (named (part l.view.page.now l.from l.end))
 
 abbrev pub decreases-loop-at : goal.decreases-loop-at
 decreases-loop-at l = l.end - l.at

@@ -6,8 +6,5 @@ use Rattle.machine.proofs.Machine.end.Goals as goal
 pub returns-then-self-eq0 : goal.returns-then-self-eq0
 returns-then-self-eq0 c = search (rules, end_none, end_rests, end_done)
 
-pub returns-then-is_sound : goal.returns-then-is_sound
-returns-then-is_sound c = search (rules, end_none, end_rests, end_done)
-
 pub returns : goal.returns
 returns c = search (rules, end_none, end_rests, end_done)

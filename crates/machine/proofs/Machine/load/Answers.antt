@@ -6,14 +6,8 @@ use Rattle.machine.proofs.Machine.load.Goals as goal
 pub returns-then-self-ne0 : goal.returns-then-self-ne0
 returns-then-self-ne0 c = search (rules, load_none, load_runs, load_faulty, load_started, accepted_size)
 
-pub start-self-requires : goal.start-self-requires
-start-self-requires c = search (rules, load_none, load_runs, load_faulty, load_started, accepted_size)
+pub returns-in-Ok : goal.returns-in-Ok
+returns-in-Ok c = search (rules, load_none, load_runs, load_faulty, load_started, accepted_size)
 
-pub returns-in_default : goal.returns-in_default
-returns-in_default c = search (rules, load_none, load_runs, load_faulty, load_started, accepted_size)
-
-pub returns-then-is_sound : goal.returns-then-is_sound
-returns-then-is_sound c = search (rules, load_none, load_runs, load_faulty, load_started, accepted_size)
-
-pub returns : goal.returns
-returns c = search (rules, load_none, load_runs, load_faulty, load_started, accepted_size)
+pub returns-in-Err : goal.returns-in-Err
+returns-in-Err c = search (rules, load_none, load_runs, load_faulty, load_started, accepted_size)

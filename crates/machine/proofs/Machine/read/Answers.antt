@@ -3,8 +3,5 @@ use Rattle.machine.proofs.RunLaws.{read_none, read_done_lem}
 use borrow.Author.Rules.{rules}
 use Rattle.machine.proofs.Machine.read.Goals as goal
 
-pub returns-then-is_sound : goal.returns-then-is_sound
-returns-then-is_sound c = search (rules, read_none, read_done_lem)
-
 pub returns : goal.returns
 returns c = search (rules, read_none, read_done_lem)

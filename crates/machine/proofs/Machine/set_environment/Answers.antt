@@ -15,8 +15,5 @@ returns-then-number-eq5 c = search (rules, set_none, set_runs, set_high, set_fiv
 pub returns-then-value-gt255 : goal.returns-then-value-gt255
 returns-then-value-gt255 c = search (rules, set_none, set_runs, set_high, set_five, set_long, set_done)
 
-pub returns-then-is_sound : goal.returns-then-is_sound
-returns-then-is_sound c = search (rules, set_none, set_runs, set_high, set_five, set_long, set_done)
-
 pub returns : goal.returns
 returns c = search (rules, set_none, set_runs, set_high, set_five, set_long, set_done)

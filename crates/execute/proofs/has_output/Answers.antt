@@ -1,7 +1,0 @@
--- `execute::has_output` meets its contract.
-use Rattle.execute.proofs.ExecuteLaws.{read_laws}
-use borrow.Author.Rules.{rules}
-use Rattle.execute.proofs.has_output.Goals as goal
-
-pub returns : goal.returns
-returns c = search (rules, read_laws)

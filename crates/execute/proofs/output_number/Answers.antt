@@ -1,7 +1,0 @@
--- `execute::output_number` meets its contract.
-use Rattle.execute.proofs.ExecuteLaws.{read_laws}
-use borrow.Author.Rules.{rules}
-use Rattle.execute.proofs.output_number.Goals as goal
-
-pub returns : goal.returns
-returns c = search (rules, read_laws)

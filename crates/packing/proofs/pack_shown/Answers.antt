@@ -1,9 +1,0 @@
--- `packing::pack_shown` meets its contract.
-use Rattle.rules.specs.Calls.{answer_number}
-use Rattle.packing.specs.Packed.{packed, kind_of, size_of, high_of}
-use borrow.Author.Rules.{rules}
-use Rattle.packing.proofs.pack_shown.Goals as goal
-
-pub returns : goal.returns
-unfolding packed answer_number kind_of size_of high_of
-returns c = search rules

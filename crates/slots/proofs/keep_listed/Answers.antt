@@ -1,7 +1,0 @@
--- `keep_listed` meets its contract.
-use Rattle.slots.proofs.KeepLaws.{keep_laws}
-use borrow.Author.Rules.{rules}
-use Rattle.slots.proofs.keep_listed.Goals as goal
-
-pub returns : goal.returns
-returns c = search (rules, keep_laws)

@@ -1,7 +1,0 @@
--- `lock` meets its contract.
-use Rattle.word.proofs.WordLaws.{mark_laws}
-use borrow.Author.Rules.{rules}
-use Rattle.word.proofs.lock.Goals as goal
-
-pub returns : goal.returns
-returns c = search (rules, mark_laws)
