@@ -7,12 +7,18 @@ mod calls;
 use calls::Call;
 use machine::Machine;
 use saying::{say_ended, say_loaded, say_ran, say_responded, say_shown, say_stepped, say_written};
-use std::alloc::AllocError;
 use std::io;
 use std::io::Read;
 
 // The bytes of the longest line that is a call.
 const LONGEST: usize = 65536;
+
+// The machine, and how many bytes of a line are held: one more than the longest has for a line that is too long.
+#[derive(Drop)]
+struct Host {
+    machine: Machine,
+    held: usize,
+}
 
 fn step(rt: &impl Print, machine: Machine) -> io::Result<Machine> {
     let mut out = [0u8; 255];
@@ -81,11 +87,12 @@ fn act(rt: &impl Print, machine: Machine, call: Call<'_>) -> io::Result<Machine>
 fn close(
     rt: &impl Print,
     machine: Machine,
-    line: &[u8],
+    line: &[u8; LONGEST],
+    held: usize,
     buffer: &mut [u8; 32768],
 ) -> io::Result<Machine> {
-    let call = if line.len() <= LONGEST {
-        calls::of_line(line, buffer)
+    let call = if held <= LONGEST {
+        calls::of_line(&line[..held], buffer)
     } else {
         None
     };
@@ -96,47 +103,56 @@ fn close(
     act(rt, machine, call)
 }
 
-// Adds bytes to a line, up to one more than the longest has: that one tells a line that is too long.
-fn add(line: &mut Vec<u8>, bytes: &[u8]) -> Result<(), AllocError> {
-    let room = (LONGEST + 1).saturating_sub(line.len());
-    line.extend_from_slice(&bytes[..bytes.len().min(room)])
+// Adds bytes to a line of which some are held, and tells how many then are.
+fn add(line: &mut [u8; LONGEST], held: usize, bytes: &[u8]) -> usize {
+    if LONGEST < held {
+        return held;
+    }
+    if LONGEST - held < bytes.len() {
+        return LONGEST + 1;
+    }
+    pour::pour(line, held, bytes);
+    held + bytes.len()
 }
 
 // Does the calls of the lines that end in what came, and holds the line that goes on.
 fn feed(
     rt: &impl Print,
-    mut machine: Machine,
+    mut host: Host,
     chunk: &[u8],
-    line: &mut Vec<u8>,
+    line: &mut [u8; LONGEST],
     buffer: &mut [u8; 32768],
-) -> io::Result<Machine> {
+) -> io::Result<Host> {
     for piece in chunk.split_inclusive(|b| *b == b'\n') {
         match piece.strip_suffix(b"\n") {
             Some(end) => {
-                add(line, end)?;
-                machine = close(rt, machine, line, buffer)?;
-                line.clear();
+                let held = add(line, host.held, end);
+                host.machine = close(rt, host.machine, line, held, buffer)?;
+                host.held = 0;
             }
-            None => add(line, piece)?,
+            None => host.held = add(line, host.held, piece),
         }
     }
-    Ok(machine)
+    Ok(host)
 }
 
 // Nothing says that the input ends, so the turns are counted up to a number that no run reaches.
 fn main(rt: HostRuntime) -> io::Result<()> {
     let mut reader = rt.reader();
     let mut chunk = [0u8; 65536];
-    let mut line = Vec::with_capacity(rt.alloc(), LONGEST + 1)?;
+    let mut line = [0u8; LONGEST];
     let mut buffer = [0u8; 32768];
-    let mut machine = Machine::create();
+    let mut host = Host {
+        machine: Machine::create(),
+        held: 0,
+    };
     for _ in 0..u64::MAX {
         let n = reader.read(&mut chunk)?;
         if n == 0 {
-            close(&rt, machine, &line, &mut buffer)?;
+            close(&rt, host.machine, &line, host.held, &mut buffer)?;
             return Ok(());
         }
-        machine = feed(&rt, machine, &chunk[..n], &mut line, &mut buffer)?;
+        host = feed(&rt, host, &chunk[..n], &mut line, &mut buffer)?;
     }
     Ok(())
 }

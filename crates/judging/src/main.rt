@@ -2,6 +2,7 @@
 // '-' is a page of no bytes, and a line that is no hex is answered by '?'.
 #![tactic(auto)]
 
+use lines::{say, say_number};
 use rules::Rejection;
 use std::io;
 use std::io::Read;
@@ -11,15 +12,20 @@ const LONGEST: usize = 65536;
 
 fn show(rt: &impl Print, judged: Result<(), Rejection>) -> io::Result<()> {
     match judged {
-        Ok(()) => println!(rt; "load 0 -"),
-        Err(Rejection { class, place }) => println!(rt; "load {class} {place}"),
+        Ok(()) => say(rt, b"load 0 -\n"),
+        Err(Rejection { class, place }) => {
+            say(rt, b"load")?;
+            say_number(rt, u64::from(class))?;
+            say_number(rt, place as u64)?;
+            say(rt, b"\n")
+        }
     }
 }
 
 // Judges the page of a line. One that is too long for a page is judged by its length alone.
 fn answer(rt: &impl Print, line: &[u8]) -> io::Result<()> {
     if !lines::is_bytes(line) {
-        return println!(rt; "?");
+        return say(rt, b"?\n");
     }
     let mut page = [0u8; 65536];
     if page.len() < line.len() / 2 {
@@ -29,30 +35,46 @@ fn answer(rt: &impl Print, line: &[u8]) -> io::Result<()> {
     show(rt, loader::judge(&page[..n]))
 }
 
-// Answers the lines that end in what came, and keeps the line that goes on.
-fn feed(rt: &impl Print, chunk: &[u8], line: &mut Vec<u8>) -> io::Result<()> {
-    for b in chunk {
-        if *b == b'\n' {
-            answer(rt, line)?;
-            line.clear();
-        } else if line.len() < LONGEST {
-            line.push(*b)?;
+// Adds a byte to a line of which some are kept, or answers the line where it ends, and tells how many bytes of it are then kept.
+fn add(rt: &impl Print, line: &mut [u8; LONGEST], kept: usize, b: u8) -> io::Result<usize> {
+    if b == b'\n' {
+        if kept <= LONGEST {
+            answer(rt, &line[..kept])?;
         }
+        return Ok(0);
     }
-    Ok(())
+    if kept < LONGEST {
+        line[kept] = b;
+        return Ok(kept + 1);
+    }
+    Ok(kept)
+}
+
+// Answers the lines that end in what came, and tells how many bytes are kept of the line that goes on.
+fn feed(
+    rt: &impl Print,
+    chunk: &[u8],
+    line: &mut [u8; LONGEST],
+    mut kept: usize,
+) -> io::Result<usize> {
+    for b in chunk {
+        kept = add(rt, line, kept, *b)?;
+    }
+    Ok(kept)
 }
 
 // Nothing says that the input ends, so the turns are counted up to a number that no run reaches.
 fn main(rt: HostRuntime) -> io::Result<()> {
     let mut reader = rt.reader();
-    let mut line = Vec::with_capacity(rt.alloc(), LONGEST)?;
+    let mut line = [0u8; LONGEST];
+    let mut kept = 0;
     let mut chunk = [0u8; 4096];
     for _ in 0..u64::MAX {
         let n = reader.read(&mut chunk)?;
         if n == 0 {
             return Ok(());
         }
-        feed(&rt, &chunk[..n], &mut line)?;
+        kept = feed(&rt, &chunk[..n], &mut line, kept)?;
     }
     Ok(())
 }

@@ -22,12 +22,25 @@ pub fn pair(high: u8, low: u8) -> usize
 pub fn same_bytes(a: &[u8], b: &[u8]) -> bool
     ensures { result ≡ same a.now b.now }
 {
-    a == b
+    if a.len() != b.len() {
+        return false;
+    }
+    for i in 0..a.len() {
+        if a[i] != b[i] {
+            return false;
+        }
+    }
+    true
 }
 
 // A number stands in a list of numbers.
 pub fn among_bytes(list: &[u8], n: u8) -> bool
     ensures { result ≡ among list.now n }
 {
-    list.contains(&n)
+    for i in 0..list.len() {
+        if n == list[i] {
+            return true;
+        }
+    }
+    false
 }

@@ -8,6 +8,8 @@ ghost use Rattle.lines.specs.Hex.{digit_of, is_hex, is_bytes, byte_of, unhexed, 
 ghost use Rattle.lines.specs.Hex.{glyph as Hex·glyph};
 ghost use Rattle.lines.specs.Words.{place_of, count_of};
 
+use std::io;
+
 // The place of the first b.
 fn place(bytes: &[u8], b: u8) -> Option<usize>
     ensures { result ≡ position (λ x. x == b) bytes.now }
@@ -130,4 +132,14 @@ pub fn hex(bytes: &[u8], out: &mut [u8]) -> usize
         out[2 * i + 1] = glyph(*b);
     }
     2 * bytes.len()
+}
+
+// Text, on standard output.
+pub fn say(rt: &impl Print, text: &[u8]) -> io::Result<()> {
+    rt.write_all(text)
+}
+
+// A number in decimal, after a blank.
+pub fn say_number(rt: &impl Print, n: u64) -> io::Result<()> {
+    print!(rt; " {n}")
 }

@@ -16,6 +16,7 @@ pub fn mark(r: &[u8]) -> Option<usize>
 }
 
 // The first TLV with a tag holds just these bytes.
+#[inline]
 #[tactic(auto, using(crate::proofs::Targets::holds_laws))]
 pub fn part_is(s: &[u8], tag: u8, from: usize, end: usize, name: &[u8]) -> bool
     requires { end ≤ length s.now }
@@ -65,8 +66,11 @@ fn own_unit(s: &[u8], name: &[u8]) -> Target
 fn is_own(s: &[u8], name: &[u8]) -> bool
     ensures { result ≡ is_own s.now name.now }
 {
+    if name.is_empty() {
+        return true;
+    }
     let row = page::page_row(s);
-    name.is_empty() || part_is(s, 0x02, row.from, row.end, name)
+    part_is(s, 0x02, row.from, row.end, name)
 }
 
 // What a reference means on a page.

@@ -19,8 +19,11 @@ pub fn length_at(s: &[u8], at: usize, end: usize) -> Option<(usize, usize)>
     if end <= at {
         return None;
     }
-    match s[at] {
-        n @ 0x00..=0x7F => Some((leaf::wide(n), at + 1)),
+    let b = s[at];
+    if b < 0x80 {
+        return Some((leaf::wide(b), at + 1));
+    }
+    match b {
         0x81 if 2 <= end - at => Some((leaf::wide(s[at + 1]), at + 2)),
         0x82 if 3 <= end - at => Some((leaf::pair(s[at + 1], s[at + 2]), at + 3)),
         _ => None,

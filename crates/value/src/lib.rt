@@ -25,6 +25,7 @@ fn told(view: View, known: &[u8], n: u8) -> Complaint
 }
 
 // The worst complaint about the variables of a value.
+#[inline]
 #[tactic(auto, using(crate::proofs::ComplaintLaws::complaint_laws, piece::proofs::PieceLaws::less_laws))]
 pub fn complaint_from(view: View, known: &[u8], list: bool, from: usize, end: usize) -> Complaint
     requires { end ≤ length view.page.now }
