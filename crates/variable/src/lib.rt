@@ -40,6 +40,7 @@ fn permanent_at(page: &[u8], perm: &[u8; 17920], n: u8) -> Option<usize>
     records::find_record(perm, service_of(page), n)
 }
 
+#[inline(never)]
 #[tactic(auto, using(crate::proofs::ServiceLaws::permanent_laws))]
 fn permanent_value<'a>(page: &'a [u8], perm: &'a [u8; 17920], n: u8) -> &'a [u8]
     ensures { (result.now ≡ value_bytes (look_for (service page.now) n (records perm.now))) × (length result.now < 256) }
@@ -50,6 +51,7 @@ fn permanent_value<'a>(page: &'a [u8], perm: &'a [u8; 17920], n: u8) -> &'a [u8]
     }
 }
 
+#[inline(never)]
 #[tactic(auto, using(crate::proofs::ServiceLaws::permanent_laws))]
 fn permanent_type(page: &[u8], perm: &[u8; 17920], n: u8) -> u8
     ensures { result ≡ value_type (look_for (service page.now) n (records perm.now)) }
@@ -60,6 +62,7 @@ fn permanent_type(page: &[u8], perm: &[u8; 17920], n: u8) -> u8
     }
 }
 
+#[inline(never)]
 #[tactic(auto, using(crate::proofs::VariableLaws::string_laws))]
 fn string_value(page: &[u8], n: usize) -> &[u8]
     ensures { (result.now ≡ value_bytes (string_of page.now (element page.now n))) × (length result.now ≤ length page.now) }
@@ -70,6 +73,7 @@ fn string_value(page: &[u8], n: usize) -> &[u8]
     }
 }
 
+#[inline(never)]
 #[tactic(auto, using(crate::proofs::VariableLaws::string_laws))]
 fn string_type(page: &[u8], n: usize) -> u8
     ensures { result ≡ value_type (string_of page.now (element page.now n)) }
@@ -81,6 +85,7 @@ fn string_type(page: &[u8], n: usize) -> u8
 }
 
 // The bytes of a variable; none where it is undefined.
+#[inline]
 #[tactic(auto, using(crate::proofs::VariableLaws::value_laws))]
 pub fn value_of<'a>(view: View<'a>, n: u8) -> &'a [u8]
     ensures { (result.now ≡ value_bytes (read (viewed view.entry) n)) × (length result.now ≤ 255 + length view.entry.page.now) }
@@ -94,6 +99,7 @@ pub fn value_of<'a>(view: View<'a>, n: u8) -> &'a [u8]
 }
 
 // The type of a variable's value; 0 where it is undefined.
+#[inline]
 #[tactic(auto, using(crate::proofs::VariableLaws::type_laws))]
 pub fn type_of(view: View, n: u8) -> u8
     ensures { result ≡ value_type (read (viewed view.entry) n) }
@@ -117,6 +123,7 @@ fn missing(held: bool) -> Complaint
     }
 }
 
+#[inline(never)]
 #[tactic(auto, using(crate::proofs::ServiceLaws::permanent_laws))]
 fn permanent_reading(page: &[u8], perm: &[u8; 17920], n: u8) -> Complaint
     ensures { result ≡ worse (unserved (service page.now) permanently) (undefined_in (look_for (service page.now) n (records perm.now))) }
@@ -129,6 +136,7 @@ fn permanent_reading(page: &[u8], perm: &[u8; 17920], n: u8) -> Complaint
     }
 }
 
+#[inline(never)]
 #[tactic(auto, using(crate::proofs::VariableLaws::string_laws))]
 fn string_reading(page: &[u8], n: usize) -> Complaint
     ensures { result ≡ undefined_in (string_of page.now (element page.now n)) }
@@ -137,6 +145,7 @@ fn string_reading(page: &[u8], n: usize) -> Complaint
 }
 
 // What is wrong with a number that is read.
+#[inline]
 #[tactic(auto, using(crate::proofs::VariableLaws::reading_laws))]
 pub fn reading(view: View, n: u8) -> Complaint
     ensures { result ≡ reading (viewed view.entry) n }
